@@ -1,15 +1,15 @@
 /*
  * Hidokpalu: a proved checker of proof outlines for C11 release-acquire programs.
  *
- * Link target/staticlib/libchecker.a, which `rt staticlib checker` writes (x86-64 Linux). Besides `check_image` it
- * needs memcpy and memset of the C library, and nothing else: no heap, no files, no state from one call to the next.
- * So any number of threads may call it at once. It needs 51 KB of stack on the smallest image; the most that was measured,
- * over all stored images, is 129 KB, for a test nested as deep as it may be. Give it 192 KB. `trim_image` is in libtrim.a
- * (`rt staticlib trim`) and takes 44 KB more: give it 256 KB. `replay_trace` is in libreplay.a (`rt staticlib replay`)
- * and takes 10 KB more than `check_image`. `check_handover` is in libhandover.a (`rt staticlib handover`) and takes 46 KB more,
- * `replay_handover` in libhandover_replay.a (`rt staticlib handover_replay`) 53 KB more: give them 256 KB. `open_service` and the
- * `serve_` calls are in libservice.a (`rt staticlib service`) and take at most 5 KB more than the calls without a service,
- * `serve_bill` than `check_image`; what a service remembers stands in numbers that the host lends. All may be linked together.
+ * Link target/staticlib/libhidokpalu.a, which `rt staticlib hidokpalu` writes (x86-64 Linux): it has every call below. It
+ * needs memcpy and memset of the C library, and nothing else: no heap, no files, no state from one call to the next. So any
+ * number of threads may call it at once. (`rt staticlib checker` writes an archive that has `check_image` alone.)
+ *
+ * Stack, measured over all stored images: `check_image` takes 56 KB for the smallest that is accepted and 134 KB for a test nested as deep
+ * as it may be. Give it 192 KB, and `replay_trace` too, which takes 5 KB more. `trim_image` takes 40 KB more than
+ * `check_image`, `check_handover` 36 KB and `replay_handover` 48 KB: give them 256 KB. Each `serve_` call takes less than 1 KB
+ * more than the call that it serves, `serve_bill` than `check_image`. What a service remembers stands in numbers that the
+ * host lends.
  */
 #ifndef HIDOKPALU_H
 #define HIDOKPALU_H

@@ -2,16 +2,16 @@
 use mathlib.Core.Path.{_≡_}
 use mathlib.Core.Bool.{Bool, true, false, _&&_}
 use mathlib.Core.List.{List}
-use Prim.Native.Nat.{ℕ, _≤_, _<_}
+use Prim.Native.Nat.{ℕ, _-_, _≤_, _<_}
 use native.Mathlib.Omega.{arith}
-use lib.ListN.{take, drop}
+use lib.ListN.{getD, take, drop}
 use borrow.Author.Tests.{eq-eqb, ne-eqb}
 use Rattle.limits.specs.Numbers.{le16}
 use Rattle.bill_spec.specs.Output.{tariffOf}
 use Rattle.vectors.specs.Number.{long}
 use Rattle.vectors.specs.Room.{holds}
 use Rattle.vectors.specs.declared.turn.TurnKind.the-variants.{Open, Set, Check, Trim, Bill, Handover, Replay, ReplayAcross, Other}
-use Rattle.vectors.specs.Turn.{turnKindOf, blank, mostBytes, mostNumbers, callerAt, lengthsAt, setAt, bytesAt, numbersAt, tariffAt}
+use Rattle.vectors.specs.Turn.{turnKindOf, serviceAt, blank, mostBytes, mostNumbers, callerAt, lengthsAt, setAt, bytesAt, numbersAt, tariffAt}
 use Rattle.vectors.specs.TurnSame.{sameLongs, sameService, sameBytes, sameNumbers, sameWritten, sameVerdict, sameTrimmed, sameBill, sameReplay}
 
 pub caller-read : (s : List ℕ) (n : ℕ) → n ≡ long (drop 2 s) → n ≡ callerAt s
@@ -50,8 +50,17 @@ module _ (s : List ℕ) (n : ℕ) (e : n ≡ long (drop 30 s)) where
   unfolding numbersAt
   numbers-read h = omega arith
 
+module _ (s : List ℕ) (n : ℕ) (e : n ≡ getD s 1 0) where
+  pub service-none : 16 ≤ n → 0 ≡ serviceAt s
+  unfolding serviceAt
+  service-none h = omega arith
+
+  pub service-front : n < 16 → 16 - n ≡ serviceAt s
+  unfolding serviceAt
+  service-front h = omega arith
+
 -- what is done, by its number
-module _ (s : List ℕ) (n : ℕ) (e : n ≡ le16 (drop 0 s)) where
+module _ (s : List ℕ) (n : ℕ) (e : n ≡ getD s 0 0) where
   pub kind-open : n ≡ 0 → Open ≡ turnKindOf s
   unfolding turnKindOf
   kind-open h = rw (← e, h)

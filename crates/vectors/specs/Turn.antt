@@ -1,9 +1,9 @@
 -- A stored turn at a service; s is what is stored.
 use mathlib.Core.Bool.{cond}
 use mathlib.Core.List.{List}
-use Prim.Native.Nat.{ℕ, min}
+use Prim.Native.Nat.{ℕ, _-_, min}
 use lib.Dec.{eqb}
-use lib.ListN.{drop, replicate}
+use lib.ListN.{getD, drop, replicate}
 use Rattle.limits.specs.Numbers.{le16}
 use Rattle.bill_spec.specs.Output.{tariffOf}
 use Rattle.bill_spec.specs.declared.tariff.Tariff.{Tariff}
@@ -21,7 +21,11 @@ turnKindBy n =
 
 -- what the turn does
 unfoldable pub turnKindOf : List ℕ → TurnKind
-turnKindOf s = turnKindBy (le16 (drop 0 s))
+turnKindOf s = turnKindBy (getD s 0 0)
+
+-- how many numbers of the service are passed: all sixteen but as many as are stored
+unfoldable pub serviceAt : List ℕ → ℕ
+serviceAt s = 16 - getD s 1 0
 
 -- the caller of the turn
 unfoldable pub callerAt : List ℕ → ℕ

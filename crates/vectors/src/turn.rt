@@ -1,10 +1,11 @@
 // A stored turn at a service: what is done and by whom, what is passed, and what is left.
 use crate::number::u32_at;
 use bill_spec::tariff::Tariff;
+use limits::read::byte_at;
 use limits::read::rest;
 use limits::read::u16_at;
 ghost use mathlib.Core.Path.{_≡_};
-ghost use Rattle.vectors.specs.Turn.{turnKindOf, callerAt, lengthsAt, setAt, bytesAt, numbersAt, tariffAt};
+ghost use Rattle.vectors.specs.Turn.{turnKindOf, serviceAt, callerAt, lengthsAt, setAt, bytesAt, numbersAt, tariffAt};
 
 // The layout of a stored turn.
 pub struct Stored;
@@ -12,6 +13,9 @@ pub struct Stored;
 impl Stored {
     // `rust/README.md` has the layout.
     pub const BYTES: usize = 274;
+
+    // No turn passes more numbers of the service.
+    pub const SERVICE: usize = 16;
 }
 
 // The buffers of a call, of which a turn passes the front.
@@ -74,7 +78,7 @@ impl Number {
 pub fn turn_kind_at(bytes: &[u8]) -> TurnKind
     ensures { λ r. ⌜ r ≡ turnKindOf (now (bytes .entry)) ⌝ }
 {
-    match u16_at(bytes, 0) {
+    match byte_at(bytes, 0) {
         0 => TurnKind::Open,
         1 => TurnKind::Set,
         2 => TurnKind::Check,
@@ -85,6 +89,17 @@ pub fn turn_kind_at(bytes: &[u8]) -> TurnKind
         7 => TurnKind::ReplayAcross,
         _ => TurnKind::Other,
     }
+}
+
+// How many numbers of the service the turn passes: all but as many as are stored.
+pub fn service_at(bytes: &[u8]) -> usize
+    ensures { λ r. ⌜ r ≡ serviceAt (now (bytes .entry)) ⌝ }
+{
+    let missing = byte_at(bytes, 1);
+    if Stored::SERVICE <= missing {
+        return 0;
+    }
+    Stored::SERVICE - missing
 }
 
 // The caller of the turn.

@@ -6,7 +6,7 @@ use Prim.Native.Nat.{ℕ}
 use lib.ListN.{length, take, drop}
 use Rattle.vectors.specs.Room.{holds}
 use Rattle.vectors.specs.declared.counters.Counters.{Counters}
-use Rattle.vectors_calls.specs.Judge.{withVerdict, Trimmed, Billed, Replayed, HandedOver, ReplayedAcross, Counted}
+use Rattle.vectors_calls.specs.Judge.{Checked, Trimmed, Billed, Replayed, HandedOver, ReplayedAcross, Counted}
 use Rattle.vectors_calls.specs.Kind.{begins, trimWord, billsWord, replayWord, handoverWord, acrossWord, kindOf, tailOf}
 use Rattle.vectors_calls.specs.declared.kind.Kind.{Kind}
 use Rattle.vectors_calls.specs.declared.kind.Kind.the-variants.{Verdicts, Trims, Bills, Replays, Handovers, Across}
@@ -76,7 +76,7 @@ module _ (kind : Kind) where
 pub ruleset tail-of-branches = (tail-verdicts, tail-trims, tail-bills, tail-replays, tail-handovers, tail-across)
 
 module _ (kind : Kind) (body s : List ℕ) (t r : Counters) where
-  pub counts-verdict : kind ≡ Verdicts → r ≡ withVerdict t body s → Counted kind body s t r
+  pub counts-verdict : kind ≡ Verdicts → Checked body s t r → Counted kind body s t r
   unfolding Counted
   counts-verdict e c = subst (λ k. Counted k body s t r) (sym e) c
 

@@ -5,16 +5,14 @@ use Prim.Native.Nat.{ℕ, _-_, _≤_, _<_}
 use native.Mathlib.Omega.{arith}
 use lib.ListN.{length, take, drop, length-append, length-drop}
 use lib.Seq.{length-take-le}
-use Rattle.verdict_record.specs.Fields.{fieldsOf}
-use Rattle.checker_spec.specs.ImageVerdict.{verdict}
 use Rattle.vectors.specs.declared.counters.Counters.{Counters}
 use Rattle.vectors.proofs.CounterFacts.{Running, running-none, running-more, running-over}
 use Rattle.vectors.specs.CallAnswer.{blankTable, blankNumbers, sameAnswer}
 use Rattle.vectors.specs.Parts.{secondOn, fourthOn, seventhOn}
 use Rattle.vectors.specs.TrimAnswer as Trims
 use Rattle.vectors.specs.BillAnswer as Bills
-use Rattle.vectors_calls.specs.Fields.{fieldsAt, sameFields}
-use Rattle.vectors_calls.specs.Judge.{withVerdict, replayTable, replayNumbers, acrossTable, acrossNumbers, sameCode, Counted}
+use Rattle.vectors_calls.specs.VerdictAnswer.{sameRecord}
+use Rattle.vectors_calls.specs.Judge.{replayTable, replayNumbers, acrossTable, acrossNumbers, sameCode, Counted}
 use Rattle.vectors_calls.specs.Kind.{tailOf}
 use Rattle.vectors_calls.specs.declared.kind.Kind.{Kind}
 use Rattle.vectors_calls.specs.declared.kind.Kind.the-variants.{Verdicts, Trims, Bills, Replays, Handovers, Across}
@@ -22,9 +20,8 @@ use Rattle.vectors_calls.specs.declared.kind.Kind.the-variants.{Verdicts
 -- a call more, of whatever kind
 pub running-call : (kind : Kind) (t r : Counters) (left : ℕ) (body s : List ℕ) → 0 < left → Running t left → Counted kind body s t r
     → Running r (left - 1)
-unfolding Counted withVerdict
-running-call Verdicts t r left body s h f c =
-    running-more t r left (fieldsOf (verdict body) .code) (sameFields (fieldsOf (verdict body)) (fieldsAt s)) h f c
+unfolding Counted
+running-call Verdicts t r left body s h f c = running-more t r left (c .code) (sameRecord (c .code) (c .after) s) h f (c .counted)
 running-call Trims t r left body s h f c =
     running-more t r left (c .code) (Trims.sameAnswer (c .code) (c .written) (c .after ++ drop (Trims.lentAt (drop 4 s)) Trims.room)
     (drop 4 s) (secondOn s body)) h f (c .counted)

@@ -4,6 +4,6 @@ pub mod FileCounted
 pub mod HandedOver
 pub mod Replayed
 pub mod ReplayedAcross
-pub mod VerdictSame
 pub mod Trimmed
 pub mod VerdictBranches
+pub mod VerdictSame

@@ -1,26 +1,29 @@
--- Verdicts that compare as the same have the same nine fields, and no others do.
-use mathlib.Core.Path.{_≡_, subst}
-use lib.Dec.{T, eqb, eqb→eq, eqb-refl}
-use Rattle.semantics.proofs.Base.{and-left, and-right, and-both}
-use Rattle.verdict_record.specs.declared.verdict.Fields.{Fields}
-use Rattle.vectors_calls.specs.Fields.{samePlace, sameFields}
+-- A verdict that compares as the same has the stored code, and its buffer holds the frame of a verdict, the stored numbers byte by byte,
+-- and behind them what stood there before.
+use mathlib.Core.Path.{_≡_}
+use mathlib.Core.Bool.{_&&_}
+use mathlib.Core.List.{List, _++_}
+use Prim.Native.Nat.{ℕ}
+use lib.Dec.{T, eqb, eqb→eq}
+use lib.ListN.{take, drop, replicate}
+use Rattle.semantics.proofs.Base.{and-left, and-right}
+use Rattle.limits.specs.Numbers.{le16}
+use Rattle.vectors.specs.Room.{holds}
+use Rattle.vectors.proofs.RoomBranches.{holds-equal}
+use Rattle.vectors_calls.specs.VerdictAnswer.{blank, frame, isFramed, sameRecord}
 
-pub same-equal : (a b : Fields) → T (sameFields a b) → a ≡ b
-unfolding sameFields samePlace
-same-equal a b h =
-    λ i.
-    record {
-      code = eqb→eq (a .code) (b .code) (search and-left) i;
-      «record» = eqb→eq (a .«record») (b .«record») (search (and-left, and-right) depth 10) i;
-      class = eqb→eq (a .class) (b .class) (search (and-left, and-right) depth 10) i;
-      thread = eqb→eq (a .thread) (b .thread) (search (and-left, and-right) depth 10) i;
-      point = eqb→eq (a .point) (b .point) (search (and-left, and-right) depth 10) i;
-      «other_thread» = eqb→eq (a .«other_thread») (b .«other_thread») (search (and-left, and-right) depth 10) i;
-      «other_point» = eqb→eq (a .«other_point») (b .«other_point») (search (and-left, and-right) depth 10) i;
-      line = eqb→eq (a .line) (b .line) (search (and-left, and-right) depth 10) i;
-      count = eqb→eq (a .count) (b .count) (search (and-left, and-right) depth 10) i;
-    }
+module _ (code : ℕ) (after s : List ℕ) (h : T (sameRecord code after s)) where
+  pub same-code : code ≡ le16 s
+  unfolding sameRecord
+  same-code = eqb→eq code (le16 s) (and-left (eqb code (le16 s)) (isFramed after && holds (drop 4 after) s blank) h)
 
-pub equal-same : (a b : Fields) → a ≡ b → T (sameFields a b)
-unfolding sameFields samePlace
-equal-same a b e = subst (λ (x : Fields). T (sameFields a x)) e (search (and-both, eqb-refl) depth 10)
+  compared : T (isFramed after && holds (drop 4 after) s blank)
+  unfolding sameRecord
+  compared = and-right (eqb code (le16 s)) (isFramed after && holds (drop 4 after) s blank) h
+
+  pub same-frame : (k : ℕ) × (take 4 after ≡ frame ++ replicate k 0)
+  unfolding isFramed
+  same-frame = holds-equal (take 4 after) frame 0 (and-left (isFramed after) (holds (drop 4 after) s blank) compared)
+
+  pub same-numbers : (k : ℕ) × (drop 4 after ≡ s ++ replicate k blank)
+  same-numbers = holds-equal (drop 4 after) s blank (and-right (isFramed after) (holds (drop 4 after) s blank) compared)

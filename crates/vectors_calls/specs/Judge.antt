@@ -6,8 +6,7 @@ use Prim.Native.Nat.{ℕ}
 use lib.Dec.{eqb}
 use lib.ListN.{take, drop}
 use Rattle.limits.specs.Numbers.{le16}
-use Rattle.verdict_record.specs.Fields.{fieldsOf}
-use Rattle.checker_spec.specs.ImageVerdict.{verdict}
+use Rattle.checker_spec.specs.Promise as Check
 use Rattle.trim.specs.Promise as Trimming
 use Rattle.bill_spec.specs.Promise as Billing
 use Rattle.replay_spec.specs.Promise as Replay
@@ -19,13 +18,9 @@ use Rattle.vectors.specs.CallAnswer.{mostBytes, mostNumbers, blankTable, blankN
 use Rattle.vectors.specs.Parts.{firstIn, secondOn, secondIn, thirdOn, thirdIn, fourthOn, fourthIn, fifthIn, sixthIn, seventhOn}
 use Rattle.vectors.specs.TrimAnswer as Trims
 use Rattle.vectors.specs.BillAnswer as Bills
-use Rattle.vectors_calls.specs.Fields.{fieldsAt, sameFields}
+use Rattle.vectors_calls.specs.VerdictAnswer as Verdict
 use Rattle.vectors_calls.specs.declared.kind.Kind.{Kind}
 use Rattle.vectors_calls.specs.declared.kind.Kind.the-variants as Kinds
-
--- one verdict more: all nine of its fields are compared
-unfoldable pub withVerdict : Counters → List ℕ → List ℕ → Counters
-withVerdict t image s = withCase t (fieldsOf (verdict image) .code) (sameFields (fieldsOf (verdict image)) (fieldsAt s))
 
 -- how many bytes of table are passed for a replay
 abbrev pub replayTable : List ℕ → ℕ
@@ -49,6 +44,13 @@ sameCode code s = eqb code (le16 (drop 8 s))
 
 -- body and s are the body and the tail of a case, t the counters before, r the counters afterwards
 module _ (body s : List ℕ) (t : Counters) where
+  -- a verdict: code and buffer are compared
+  pub record Checked (r : Counters) : Type 0 where
+    pub code : ℕ
+    pub after : List ℕ
+    pub called : Check.Promise body Verdict.room code after
+    pub counted : r ≡ withCase t code (Verdict.sameRecord code after s)
+
   -- trimming: code, length and buffer are compared
   pub record Trimmed (r : Counters) : Type 0 where
     pub code : ℕ
@@ -93,7 +95,7 @@ module _ (body s : List ℕ) (t : Counters) where
 
 -- one call more, by the kind of call
 unfoldable pub Counted : Kind → List ℕ → List ℕ → Counters → Counters → Type 0
-Counted Kinds.Verdicts image s t r = r ≡ withVerdict t image s
+Counted Kinds.Verdicts image s t r = Checked image s t r
 Counted Kinds.Trims body s t r = Trimmed body s t r
 Counted Kinds.Bills image s t r = Billed image s t r
 Counted Kinds.Replays body s t r = Replayed body s t r

@@ -1,3 +1,3 @@
-pub mod Fields
+pub mod VerdictAnswer
 pub mod Judge
 pub mod Kind

@@ -1,7 +1,6 @@
 // Makes the calls of the files that the arguments name, and writes a line for each file: how many answers there are of each code, and how
 // many differ from the stored ones. A fault of a file is reported on standard error, and then there is no line for it.
 mod bills;
-mod fields;
 mod handover_replays;
 mod handovers;
 mod judge;

@@ -1,5 +1,5 @@
 -- The turns of a file, one by one.
-use mathlib.Core.Path.{_≡_, refl}
+use mathlib.Core.Path.{_≡_, refl, sym}
 use mathlib.Core.Bool.{Bool, false}
 use mathlib.Core.List.{List, _++_}
 use Prim.Native.Nat.{ℕ, _-_, _≤_, _<_}
@@ -16,7 +16,7 @@ use Rattle.vectors.proofs.CounterFacts.{Running, running-none, running-more, ru
 use Rattle.vectors.specs.Parts.{firstIn, secondIn, thirdIn, fourthIn, fifthIn, sixthOn}
 use Rattle.vectors.specs.declared.turn.TurnKind.{TurnKind}
 use Rattle.vectors.specs.declared.turn.TurnKind.the-variants.{Open, Set, Check, Trim, Bill, Handover, Replay, ReplayAcross, Other}
-use Rattle.vectors.specs.Turn.{mostBytes, mostNumbers, bytes, numbers, turnKindOf, callerAt, lengthsAt, setAt, bytesAt, numbersAt, tariffAt}
+use Rattle.vectors.specs.Turn.{mostBytes, mostNumbers, bytes, numbers, turnKindOf, serviceAt, callerAt, lengthsAt, setAt, bytesAt, numbersAt, tariffAt}
 use Rattle.vectors.specs.TurnSame.{sameService, sameVerdict, sameTrimmed, sameBill, sameReplay}
 use Rattle.vectors_service.specs.Judge.{numberSet, Opened, Changed, Checked, Trimmed, Billed, HandedOver, Replayed, ReplayedAcross, Counted, opened, changed, checked, trimmed, billed, handed, replayed, across, other}
 
@@ -86,6 +86,21 @@ module _ (s r : List ℕ) (n : ℕ) (e : n ≡ numbersAt s) (q : r ≡ numbers) 
       → Billed service image s t left u
   billed-counted service image left after t u code same w y g =
       record { code = code; after = after; served = rw (← e, ← q) w; counted = rw (← e, ← q, ← y) g }
+
+service-within : (s : List ℕ) (n : ℕ) → n ≡ serviceAt s → n ≤ 16
+unfolding serviceAt
+service-within s n e = omega arith
+
+-- a front of the service is passed, and the rest stays
+module _ (s r : List ℕ) (n : ℕ) (e : n ≡ serviceAt s) (q : 16 ≡ length r) where
+  pub service-fit : n ≤ length r
+  service-fit = front-fits r n 16 (sym q) (service-within s n e)
+
+  pub service-front : n ≡ length (take n r)
+  service-front = front-length r n 16 (sym q) (service-within s n e)
+
+  pub service-back : (after : List ℕ) → length after ≡ length (take n r) → 16 ≡ length (after ++ drop n r)
+  service-back = whole-length r n 16 (sym q) (service-within s n e)
 
 pub bill-called : (service image s answer left after : List ℕ) (f : Tariff) (c code : ℕ) → f ≡ tariffAt s → c ≡ callerAt s
     → BillServed service c image (tariffOf (f .start) (f .step) (f .taken) (f .interference) (f .least)) answer left code after
@@ -206,4 +221,4 @@ running-turn t r more service body s left h f (across d k c) =
     h f (c .counted)
 running-turn t r more service body s left h f (other d k c) = running-more t r more 8 false h f c
 
-pub ruleset judge-all-branches = (running-none, running-turn, running-over)
+pub ruleset judge-all-branches = (running-none, running-turn, running-over, service-fit, service-front, service-back)

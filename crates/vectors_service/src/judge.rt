@@ -22,6 +22,7 @@ use vectors::turn::TurnKind;
 use vectors::turn::bytes_at;
 use vectors::turn::caller_at;
 use vectors::turn::numbers_at;
+use vectors::turn::service_at;
 use vectors::turn::set_at;
 use vectors::turn::tariff_at;
 use vectors::turn::turn_kind_at;
@@ -177,7 +178,7 @@ fn with_turn<'a, 'b, 'c>(
     }
 }
 
-// Judges the turns of a file; before the first one no caller has a right.
+// Judges the turns of a file, each with the front of the service that it passes; before the first one no caller has a right.
 pub fn judge_all(fd: i32) -> Judged
     ensures { λ r. ⌜ FromCases (r .tally) ⌝ }
 {
@@ -190,7 +191,8 @@ pub fn judge_all(fd: i32) -> Judged
     while 0 < left {
         match read_case(fd, &mut space, &mut stored) {
             Next::Case(n) => {
-                tally = with_turn(tally, &mut service, &space[..n], &stored);
+                let lent = service_at(&stored);
+                tally = with_turn(tally, &mut service[..lent], &space[..n], &stored);
                 left -= 1;
             }
             Next::Over(end) => {

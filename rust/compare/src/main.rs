@@ -7,11 +7,10 @@ mod startup;
 mod timing;
 
 use driver::Task;
-use proved::Replay;
 use std::process::ExitCode;
 
 const USAGE: &str = "\
-usage: compare compare|trim|bill|replay|handover|desks N [SEED] | files|trim-files|bill-files|replay-files PATH... |
+usage: compare compare|trim|bill|replay|handover|service N [SEED] | files|trim-files|bill-files|replay-files PATH... |
                bench|trim-bench [IMAGE...] | replay-bench | images FOLDER | stack [PATH...] |
                startup PROGRAM IMAGE";
 
@@ -20,23 +19,19 @@ fn main() -> ExitCode {
     let words: Vec<&str> = arguments.iter().map(String::as_str).collect();
     let done = match words[..] {
         ["compare", ref numbers @ ..] => compare(&driver::CHECK, numbers),
-        ["trim", ref numbers @ ..] => trimming().and_then(|task| compare(&task, numbers)),
-        ["bill", ref numbers @ ..] => billing().and_then(|task| compare(&task, numbers)),
-        ["replay", ref numbers @ ..] => replaying().and_then(|_| compare(&driver::REPLAY, numbers)),
-        ["handover", ref numbers @ ..] => {
-            linked(proved::HANDOVER.is_some(), "handover").and_then(|()| handovers(numbers))
-        }
-        ["desks", ref numbers @ ..] => sessions(numbers),
+        ["trim", ref numbers @ ..] => compare(&driver::TRIM, numbers),
+        ["bill", ref numbers @ ..] => compare(&driver::BILL, numbers),
+        ["replay", ref numbers @ ..] => compare(&driver::REPLAY, numbers),
+        ["handover", ref numbers @ ..] => handovers(numbers),
+        ["service", ref numbers @ ..] => sessions(numbers),
         ["files", ref paths @ ..] => Ok(driver::files(&driver::CHECK, paths)),
-        ["trim-files", ref paths @ ..] => trimming().map(|task| driver::files(&task, paths)),
-        ["bill-files", ref paths @ ..] => billing().map(|task| driver::files(&task, paths)),
-        ["replay-files", ref paths @ ..] => {
-            replaying().map(|_| driver::files(&driver::REPLAY, paths))
-        }
+        ["trim-files", ref paths @ ..] => Ok(driver::files(&driver::TRIM, paths)),
+        ["bill-files", ref paths @ ..] => Ok(driver::files(&driver::BILL, paths)),
+        ["replay-files", ref paths @ ..] => Ok(driver::files(&driver::REPLAY, paths)),
         ["images", folder] => Ok(timing::write(folder)),
         ["bench", ref names @ ..] => Ok(timing::run(&timing::CHECK, names)),
-        ["trim-bench", ref names @ ..] => trimming().map(|_| timing::run(&timing::TRIM, names)),
-        ["replay-bench"] => replaying().map(timing::replay::run),
+        ["trim-bench", ref names @ ..] => Ok(timing::run(&timing::TRIM, names)),
+        ["replay-bench"] => Ok(timing::replay::run(proved::replay_trace)),
         ["stack", ref paths @ ..] => Ok(stack::run(paths)),
         ["startup", program, image] => Ok(startup::run(program, image)),
         _ => Err(USAGE.into()),
@@ -63,8 +58,8 @@ fn handovers(numbers: &[&str]) -> Result<bool, String> {
 
 /// The same on sessions of several callers with so many calls together.
 fn sessions(numbers: &[&str]) -> Result<bool, String> {
-    let service = proved::SERVICE.ok_or_else(|| missing("service"))?;
-    count_and_seed(numbers).map(|(calls, seed)| driver::service::run(&service, calls, seed))
+    let service = &proved::SERVICE_CALLS;
+    count_and_seed(numbers).map(|(calls, seed)| driver::service::run(service, calls, seed))
 }
 
 /// How many, and the seed of the first: 1, or the one given.
@@ -75,26 +70,4 @@ fn count_and_seed(numbers: &[&str]) -> Result<(u64, u64), String> {
         Some(&[count, seed]) => Ok((count, seed)),
         _ => Err(USAGE.into()),
     }
-}
-
-fn trimming() -> Result<Task, String> {
-    linked(proved::TRIM.is_some(), "trim").map(|()| driver::TRIM)
-}
-
-fn billing() -> Result<Task, String> {
-    linked(proved::BILL.is_some(), "service").map(|()| driver::BILL)
-}
-
-fn replaying() -> Result<Replay, String> {
-    linked(proved::REPLAY.is_some(), "replay")?;
-    Ok(proved::REPLAY.expect("it is linked"))
-}
-
-/// An error if an archive was not there when this program was built.
-fn linked(is_linked: bool, name: &str) -> Result<(), String> {
-    is_linked.then_some(()).ok_or_else(|| missing(name))
-}
-
-fn missing(name: &str) -> String {
-    format!("target/staticlib/lib{name}.a was not there: `rt staticlib {name}`, then build again")
 }

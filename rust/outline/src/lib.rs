@@ -2,7 +2,8 @@
 //!
 //! `text` reads sources and writes texts, `search` finds certificate lines, `build` and `explicit`
 //! put images together, `handover` finds the table of a handover, `gallery` makes the tables of the
-//! examples, `report` and `draw` make pages and drawings. What an image is and which lines are justified
+//! examples, `report` and `draw` make pages and drawings, `migrate`
+//! rewrites images of earlier layouts. What an image is and which lines are justified
 //! is the library `reference`'s.
 
 pub mod build;
@@ -17,6 +18,7 @@ pub mod image;
 pub mod infer;
 pub mod judged;
 pub mod markup;
+pub mod migrate;
 pub mod refuted;
 pub mod report;
 pub mod search;

@@ -42,7 +42,7 @@ impl Element {
         self
     }
 
-    pub fn add(mut self, child: Element) -> Element {
+    pub fn child(mut self, child: Element) -> Element {
         self.inner.push(Node::Element(child));
         self
     }
@@ -123,7 +123,7 @@ mod tests {
 
     #[test]
     fn elements_nest_and_void_ones_have_no_end() {
-        let page = of("div", "a").add(el("br")).all([el("i").text(1), el("i")]);
+        let page = of("div", "a").child(el("br")).all([el("i").text(1), el("i")]);
         assert_eq!(page.written(), "<div class=\"a\"><br><i>1</i><i></i></div>");
         assert_eq!(el("style").style("a > b {}").written(), "<style>a > b {}</style>");
     }

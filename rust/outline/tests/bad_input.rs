@@ -38,7 +38,7 @@ fn texts_that_are_not_plain_utf8() {
     assert_eq!(good("mark.outline", &marked), (0, ACCEPTED.into()));
     assert_eq!(good("mark.txt", &marked), (0, ACCEPTED.into()));
     assert_eq!(good("lines.outline", GOOD.replace('\n', "\r\n").as_bytes()), (0, ACCEPTED.into()));
-    let latin = [b"word x = 0 # gr", &b"\xFC"[..], b"n\n", GOOD[11..].as_bytes()].concat();
+    let latin = [b"word x = 0 # gr", &b"\xFC"[..], b"n\n", &GOOD.as_bytes()[11..]].concat();
     for name in ["latin.outline", "latin.txt"] {
         assert_eq!(bad(name, &latin), ":1:16: the byte 0xFC here is no UTF-8");
     }

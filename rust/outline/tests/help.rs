@@ -4,9 +4,9 @@ mod program;
 
 use program::{run, Folder};
 
-const COMMANDS: [&str; 12] = [
-    "build", "check", "show", "explain", "explore", "report", "draw", "trim", "bill", "replay",
-    "handover", "serve",
+const COMMANDS: [&str; 14] = [
+    "build", "infer", "check", "show", "explain", "explore", "report", "draw", "trim", "bill",
+    "replay", "handover", "serve", "migrate",
 ];
 
 #[test]

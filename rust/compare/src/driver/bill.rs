@@ -2,7 +2,7 @@
 
 use super::tally::Tally;
 use super::Task;
-use crate::proved;
+use crate::proved::bill_into;
 use reference::bill::{charge, Tariff, ANSWER};
 use reference::checker::accepted;
 use reference::image::Thread;
@@ -29,14 +29,13 @@ struct Call {
 }
 
 fn compare(image: &[u8], seed: u64, tally: &mut Tally) -> Result<(), String> {
-    let bill = proved::BILL.expect("the caller saw to the archive");
     let program = accepted(image).map(|image| image.program.threads);
     let random = &mut Random::new(seed);
     for _ in 0..CALLS {
         let call = call(random, program.as_deref());
         let before: [u32; AROUND] = std::array::from_fn(|_| random.draw() as u32);
         let (mut proved, mut independent) = (before, before);
-        let by_proof = bill(image, &call.tariff, call.billed, &mut proved[..call.room]);
+        let by_proof = bill_into(image, &call.tariff, call.billed, &mut proved[..call.room]);
         let bill = charge(program.as_deref(), &call.tariff, call.billed);
         let by_other = bill.put(&mut independent[..call.room]);
         if (by_proof, proved) != (by_other, independent) {

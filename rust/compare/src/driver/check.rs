@@ -2,7 +2,7 @@
 
 use super::tally::Tally;
 use super::Task;
-use crate::proved;
+use crate::proved::check_image;
 use reference::checker;
 use sets::generate;
 use sets::generate::random::Random;
@@ -54,7 +54,7 @@ fn agreed(image: &[u8], seed: u64) -> Result<u16, Box<Difference>> {
     let mut code = 0;
     for room in ROOMS {
         let before: Bytes = std::array::from_fn(|_| random.draw() as u8);
-        let proved = answer(proved::check_into, image, room, before);
+        let proved = answer(check_image, image, room, before);
         let independent = answer(checker::check_into, image, room, before);
         if proved != independent {
             return Err(Box::new(Difference { room, before, proved, independent }));

@@ -3,7 +3,7 @@
 use super::replay::{before, difference};
 use super::tally::Tally;
 use super::MANY;
-use crate::proved::{self, Across, Handover};
+use crate::proved::{check_handover, replay_handover};
 use reference::checker::accepted;
 use reference::handover::{self, between, replayed_across, Traces, UNLIKE};
 use reference::replay::room;
@@ -16,18 +16,15 @@ const CROSSING_CODES: [u16; 8] = [0, 1, 27, 28, 29, 32, 33, 34];
 /// So many crossings of a pair.
 const CROSSINGS: usize = 2;
 
-/// Both functions, the second if its archive was there.
+/// Both calls, with the codes on which the two sides agree.
 struct Both {
-    check: Handover,
-    across: Option<Across>,
     checks: Tally,
     crossings: Tally,
 }
 
 /// Compares on the stored handovers and on those of so many seeds; false if an answer differs or some code never comes.
 pub fn run(pairs: u64, first: u64) -> bool {
-    let check = proved::HANDOVER.expect("the caller saw to the archive");
-    let mut stored = Both::new(check);
+    let mut stored = Both::new();
     let cases = handovers::cases().into_iter().map(|case| (case.label, case.pair));
     for (seed, (label, pair)) in (0..).zip(cases) {
         if !stored.agrees(&label, &pair, seed) {
@@ -40,7 +37,7 @@ pub fn run(pairs: u64, first: u64) -> bool {
         }
     }
     stored.tell("stored");
-    let mut generated = Both::new(check);
+    let mut generated = Both::new();
     for offset in 0..pairs {
         let seed = first.wrapping_add(offset);
         if !generated.agrees(&format!("seed {seed}"), &pair(seed), seed) {
@@ -52,9 +49,8 @@ pub fn run(pairs: u64, first: u64) -> bool {
 }
 
 impl Both {
-    fn new(check: Handover) -> Both {
-        let (checks, crossings) = (Tally::of("handovers"), Tally::of("replays"));
-        Both { check, across: proved::ACROSS, checks, crossings }
+    fn new() -> Both {
+        Both { checks: Tally::of("handovers"), crossings: Tally::of("replays") }
     }
 
     /// Whether both sides agree on a pair, and on replays across it.
@@ -87,21 +83,19 @@ impl Both {
             _ => Err(UNLIKE),
         };
         let expected = handover.as_ref().err().copied().unwrap_or(0);
-        let found = (self.check)(old, new, points);
+        let found = check_handover(old, new, points);
         if found != expected {
             return Err(format!("proved: {found}, independent: {expected}"));
         }
         self.checks.count(found);
-        let Some(across) = self.across else {
-            return Ok(());
-        };
         for crossing in crossings {
             let Crossing { call, second } = crossing;
             let traces = Traces { first: &call.trace, second, given: &call.given };
             let before = before(random, call);
             let (mut proved, mut independent) = (before.clone(), before);
             let (table, answer) = proved.lent(call);
-            proved.code = across(&handover::Across { old, new, points, traces }, table, answer);
+            let run = handover::Across { old, new, points, traces };
+            proved.code = replay_handover(&run, table, answer);
             let (table, answer) = independent.lent(call);
             let replayed = replayed_across(handover.as_ref(), &traces, room(call.table));
             independent.code = replayed.put(table, answer);
@@ -115,20 +109,13 @@ impl Both {
 
     fn tell(&self, name: &str) {
         println!("{name}: {}", self.checks);
-        match self.across {
-            Some(_) => println!("{name}: {}", self.crossings),
-            None => {
-                println!("{name}: no replays, target/staticlib/libhandover_replay.a was not there")
-            }
-        }
+        println!("{name}: {}", self.crossings);
     }
 
     /// Whether each code came, if there were many pairs.
     fn has_all(&self, pairs: u64) -> bool {
         let mut missing = self.checks.missing(&CODES);
-        if self.across.is_some() {
-            missing.extend(self.crossings.missing(&CROSSING_CODES));
-        }
+        missing.extend(self.crossings.missing(&CROSSING_CODES));
         if pairs >= MANY && !missing.is_empty() {
             println!("codes that never came: {missing:?}");
             return false;

@@ -2,7 +2,7 @@
 
 use super::tally::Tally;
 use super::Task;
-use crate::proved;
+use crate::proved::replay_trace;
 use reference::checker::accepted;
 use reference::replay::{replayed, room};
 use sets::generate::random::Random;
@@ -28,7 +28,6 @@ pub(super) struct Left {
 }
 
 fn compare(image: &[u8], seed: u64, tally: &mut Tally) -> Result<(), String> {
-    let replay = proved::REPLAY.expect("the caller saw to the archive");
     let program = accepted(image).map(|image| image.program);
     let random = &mut Random::new(seed);
     for _ in 0..CALLS {
@@ -36,7 +35,7 @@ fn compare(image: &[u8], seed: u64, tally: &mut Tally) -> Result<(), String> {
         let before = before(random, &call);
         let (mut proved, mut independent) = (before.clone(), before);
         let (table, answer) = proved.lent(&call);
-        proved.code = replay(image, &call.trace, &call.given, table, answer);
+        proved.code = replay_trace(image, &call.trace, &call.given, table, answer);
         let expected = replayed(program.as_ref(), &call.trace, &call.given, room(call.table));
         let (table, answer) = independent.lent(&call);
         independent.code = expected.put(table, answer);

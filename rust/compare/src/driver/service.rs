@@ -3,7 +3,7 @@
 
 use super::tally::Tally;
 use super::MANY;
-use crate::proved::Service;
+use crate::proved::{Service, KINDS};
 use reference::service::{open_service, serve, Call, Kind, Lent, Request, CALLERS};
 use sets::generate::calls::{session, Session, AROUND, CALLS, SPARE};
 use sets::generate::random::Random;
@@ -62,7 +62,7 @@ pub fn run(proved: &Service, calls: u64, first: u64) -> bool {
     let mut tallies = Tallies::default();
     for offset in 0..sessions {
         let seed = first.wrapping_add(offset);
-        let compared = compare(proved, &session(seed, proved.kinds), seed, &mut tallies);
+        let compared = compare(proved, &session(seed, &KINDS), seed, &mut tallies);
         if let Err(found) = compared {
             println!("DIFFERENCE: session of seed {seed}\n{found}");
             return false;
@@ -165,11 +165,10 @@ fn difference(
 #[cfg(test)]
 mod tests {
     use super::*;
-    use crate::proved::KINDS;
     use reference::service::{admitted, Right};
 
     fn with(serve: Serve) -> bool {
-        run(&Service { open: open_service, serve, kinds: &KINDS }, 4000, 1)
+        run(&Service { open: open_service, serve }, 4000, 1)
     }
 
     #[test]

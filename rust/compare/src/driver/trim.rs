@@ -3,7 +3,7 @@
 
 use super::tally::Tally;
 use super::Task;
-use crate::proved::{self, Trim};
+use crate::proved::{check_image, trim_image};
 use reference::trim::{put, trimmed, Answer};
 use sets::generate::clutter;
 use sets::generate::random::Random;
@@ -20,34 +20,33 @@ const MOST: usize = 300;
 const SPARE: usize = 40;
 
 fn compare(image: &[u8], seed: u64, tally: &mut Tally) -> Result<(), String> {
-    let trim = proved::TRIM.expect("the caller saw to the archive");
     let expected = trimmed(image);
     let length = expected.as_ref().map_or(image.len().min(MOST), Vec::len);
     let random = &mut Random::new(seed);
     for room in [0, length.saturating_sub(1), length, length + 1, length + SPARE] {
         let before: Vec<u8> = (0..length + SPARE + BEHIND).map(|_| random.draw() as u8).collect();
         let (mut proved, mut independent) = (before.clone(), before);
-        let by_proof = trim(image, &mut proved[..room]);
+        let by_proof = trim_image(image, &mut proved[..room]);
         let by_other = put(expected.as_deref(), &mut independent[..room]);
         if (by_proof, &proved) != (by_other, &independent) {
             return Err(difference(room, (by_proof, &proved), (by_other, &independent)));
         }
         tally.count(by_proof.code);
     }
-    expected.map_or(Ok(()), |result| archived(trim, image, &result))
+    expected.map_or(Ok(()), |result| archived(image, &result))
 }
 
 /// The result is accepted with the same count, and trimming it again gives the same bytes.
-fn archived(trim: Trim, image: &[u8], result: &[u8]) -> Result<(), String> {
+fn archived(image: &[u8], result: &[u8]) -> Result<(), String> {
     let [before, after] = [image, result].map(|bytes| {
         let mut record = [0; 22];
-        (proved::check_into(bytes, &mut record), record)
+        (check_image(bytes, &mut record), record)
     });
     if before.0 != 0 || before != after {
         return Err(format!("the proved checker before: {before:?}, after: {after:?}"));
     }
     let mut again = vec![0; result.len()];
-    let answer = trim(result, &mut again);
+    let answer = trim_image(result, &mut again);
     if answer != (Answer { code: 0, length: result.len() }) || again != result {
         return Err(format!("trimmed again: {answer:?}, of {} bytes", result.len()));
     }

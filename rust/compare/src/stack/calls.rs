@@ -1,6 +1,8 @@
 //! The calls whose stack is measured, each made of an image.
 
-use crate::proved::{self, ACROSS, HANDOVER, REPLAY, TRIM};
+use crate::proved::{
+    check_handover, check_image, replay_handover, replay_trace, trim_image, SERVICE_CALLS,
+};
 use reference::bill::{self, Tariff};
 use reference::checker::decode;
 use reference::replay::{ANSWER, MOST_WRITES, WRITE_BYTES};
@@ -20,7 +22,7 @@ const STEPS: usize = 60;
 /// Who calls a service.
 const CALLER: usize = 1;
 
-/// A call that an archive has.
+/// A call of the archive.
 #[derive(Clone, Copy)]
 pub struct Measured {
     pub name: &'static str,
@@ -41,7 +43,7 @@ const fn served(name: &'static str, kind: Kind, given: usize) -> Measured {
 
 pub const CHECK: Measured = alone("check_image", Kind::Check, LITTLE);
 
-const ALL: [Measured; 11] = [
+pub const ALL: [Measured; 11] = [
     CHECK,
     alone("trim_image", Kind::Trim, MUCH),
     alone("replay_trace", Kind::Replay, LITTLE),
@@ -55,24 +57,7 @@ const ALL: [Measured; 11] = [
     served("serve_replay_handover", Kind::ReplayHandover, MUCH),
 ];
 
-/// All whose archive was there.
-pub fn linked() -> impl Iterator<Item = Measured> {
-    ALL.into_iter().filter(Measured::is_linked)
-}
-
 impl Measured {
-    fn is_linked(&self) -> bool {
-        match (self.served, self.kind) {
-            (true, kind) => proved::SERVICE.is_some_and(|proved| proved.kinds.contains(&kind)),
-            (false, Kind::Check) => true,
-            (false, Kind::Trim) => TRIM.is_some(),
-            (false, Kind::Replay) => REPLAY.is_some(),
-            (false, Kind::Handover) => HANDOVER.is_some(),
-            (false, Kind::ReplayHandover) => ACROSS.is_some(),
-            (false, Kind::Bill) => false,
-        }
-    }
-
     /// The call on an image, to be made later; it answers with the code.
     pub fn on(&self, image: &[u8]) -> impl FnMut() -> u16 {
         let call = service::Call { caller: CALLER, request: request(self.kind, image) };
@@ -80,27 +65,26 @@ impl Measured {
         let mut service = [0; SERVICE];
         service[CALLER - 1] = Right::Check as u32 | Right::Replay as u32 | Right::Bill as u32;
         let is_served = self.served;
-        move || match proved::SERVICE {
-            Some(proved) if is_served => (proved.serve)(&mut service, &call, &mut lent),
-            _ => make(&call.request, &mut lent),
+        move || match is_served {
+            true => (SERVICE_CALLS.serve)(&mut service, &call, &mut lent),
+            false => make(&call.request, &mut lent),
         }
     }
 }
 
 /// Makes a call without a service.
 fn make(request: &Request, lent: &mut Lent) -> u16 {
-    let missing = "only linked calls are made";
     match request {
-        Request::Check { image, room } => proved::check_into(image, &mut lent.bytes[..*room]),
-        Request::Trim { image, room } => TRIM.expect(missing)(image, &mut lent.bytes[..*room]).code,
-        Request::Handover { old, new, points } => HANDOVER.expect(missing)(old, new, points),
+        Request::Check { image, room } => check_image(image, &mut lent.bytes[..*room]),
+        Request::Trim { image, room } => trim_image(image, &mut lent.bytes[..*room]).code,
+        Request::Handover { old, new, points } => check_handover(old, new, points),
         Request::Replay { image, trace, given, rooms } => {
             let (table, answer) = lent.for_replay(rooms);
-            REPLAY.expect(missing)(image, trace, given, table, answer)
+            replay_trace(image, trace, given, table, answer)
         }
         Request::ReplayHandover { across, rooms } => {
             let (table, answer) = lent.for_replay(rooms);
-            ACROSS.expect(missing)(&across.call(), table, answer)
+            replay_handover(&across.call(), table, answer)
         }
         Request::Bill { .. } => unreachable!("a service makes it"),
     }

@@ -1,13 +1,12 @@
 //! How much stack a proved call takes, on a stack that is painted before.
 
 mod calls;
-mod painted;
 
 use crate::driver::sources;
 use crate::timing;
 use calls::Measured;
-use painted::Painted;
 use sets::vectors::Case;
+use system::painted::Painted;
 
 /// Of these images it is told for each call.
 const NOTABLE: [&str; 6] =
@@ -20,7 +19,7 @@ struct Taken<'a> {
     code: u16,
 }
 
-/// Measures each call that is linked on the images in files and folders, or, without any, on all
+/// Measures each call on the images in files and folders, or, without any, on all
 /// that are timed, the stored sets and the long inputs; false if one takes more than it is given.
 pub fn run(paths: &[&str]) -> bool {
     let images = match images(paths) {
@@ -32,7 +31,7 @@ pub fn run(paths: &[&str]) -> bool {
     };
     let memory = &mut Painted::new();
     let mut within = true;
-    for call in calls::linked() {
+    for call in calls::ALL {
         within &= is_within(memory, &call, &images);
     }
     within

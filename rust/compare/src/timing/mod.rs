@@ -4,7 +4,7 @@ pub mod images;
 mod measure;
 pub mod replay;
 
-use crate::proved;
+use crate::proved::{check_image, trim_image};
 pub use measure::median;
 use measure::medians;
 use reference::checker::{self, decode, frames, rules};
@@ -25,11 +25,11 @@ pub struct Timed {
 type Task = fn(&[u8], &mut [u8]) -> u16;
 
 /// The verdict on an image.
-pub const CHECK: Timed = Timed { proved: proved::check_into, independent: checker::check_into };
+pub const CHECK: Timed = Timed { proved: check_image, independent: checker::check_into };
 
 /// The image trimmed, its verdict included.
 pub const TRIM: Timed = Timed {
-    proved: |image, out| proved::TRIM.map_or(trim::NOT_ACCEPTED, |trim| trim(image, out).code),
+    proved: |image, out| trim_image(image, out).code,
     independent: |image, out| trim::trim_into(image, out).code,
 };
 
@@ -72,7 +72,7 @@ pub fn write(folder: &str) -> bool {
 
 /// Whether both checkers accept the image, and all its lines are justified.
 fn accepted(image: &[u8]) -> Result<(), String> {
-    let codes = [proved::check_into, checker::check_into].map(|check| check(image, &mut [0; 22]));
+    let codes = [check_image, checker::check_into].map(|check| check(image, &mut [0; 22]));
     if codes != [0, 0] {
         return Err(format!("not accepted: proved {}, independent {}", codes[0], codes[1]));
     }

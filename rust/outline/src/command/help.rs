@@ -1,8 +1,8 @@
 //! The commands by their names, and what is said of them.
 
 use crate::command::{
-    bill, build, check, draw, explain, explore, handover, infer, print, replay, report, serve,
-    show, trim, Done, Status,
+    bill, build, check, draw, explain, explore, handover, infer, migrate, print, replay, report,
+    serve, show, trim, Done, Status,
 };
 use crate::text::nearest::nearest;
 
@@ -17,7 +17,7 @@ struct Command {
 
 const BOUNDS: [&str; 4] = ["--steps", "--writes", "--starts", "--states"];
 
-const COMMANDS: [Command; 13] = [
+const COMMANDS: [Command; 14] = [
     Command {
         name: "build",
         usage: &["build FILE.outline -o FILE.image [--partial] [--all] [--at THREAD:POINT] [--all-lines] [BOUNDS]"],
@@ -112,9 +112,16 @@ const COMMANDS: [Command; 13] = [
         options: &[],
         run: serve::run,
     },
+    Command {
+        name: "migrate",
+        usage: &["migrate STEP FILE.image -o FILE.image", "migrate STEP --set SET -o SET"],
+        about: "an image of an earlier layout in the next one; steps, in their order: range, marks, actors; of a set also lengths",
+        options: &["--set"],
+        run: migrate::run,
+    },
 ];
 
-const OPTIONS: [(&str, &str); 19] = [
+const OPTIONS: [(&str, &str); 20] = [
     ("--image", "writes the image that the page is about, or of what was inferred, too"),
     ("--tries", "N, a bound: ends the inference after so many tries; 2000000"),
     ("--date", "the page's date; else that of SOURCE_DATE_EPOCH, else the clock's, in UTC"),
@@ -138,6 +145,7 @@ const OPTIONS: [(&str, &str); 19] = [
     ("--given", "what open registers hold at the start (0)"),
     ("--entries", "room for so many writes (64)"),
     ("--table", "for each old point a new point and a line of the new image, three bytes"),
+    ("--set", "the file is a stored set of images with their verdicts"),
     ("--map", "where an old point goes on, points by number or label; the others are proposed"),
 ];
 
@@ -216,6 +224,6 @@ mod tests {
             );
         }
         let told = |name: &&str| OPTIONS.iter().any(|(other, _)| other == name);
-        assert!(COMMANDS.iter().all(|command| command.options.iter().all(|name| told(name))));
+        assert!(COMMANDS.iter().all(|command| command.options.iter().all(told)));
     }
 }

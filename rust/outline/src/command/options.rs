@@ -34,6 +34,7 @@ pub struct Options {
     pub date: Option<String>,
     pub map: Vec<String>,
     pub tries: Option<u64>,
+    pub set: bool,
 }
 
 impl Options {
@@ -76,6 +77,7 @@ impl Options {
                 "--all-lines" => options.all_lines = true,
                 "--json" => options.json = true,
                 "--claims" => options.claims = true,
+                "--set" => options.set = true,
                 file => options.files.push(file.into()),
             }
         }

@@ -15,6 +15,7 @@ pub enum Kind {
     Drawing,
     Table,
     Outline,
+    Set,
 }
 
 impl Kind {
@@ -25,6 +26,7 @@ impl Kind {
             Kind::Drawing => "drawing",
             Kind::Table => "table",
             Kind::Outline => "outline",
+            Kind::Set => "stored set",
         }
     }
 
@@ -41,6 +43,11 @@ impl Kind {
             Kind::Outline => {
                 let is_text = !front.contains(&0) && !Kind::Page.fits(front);
                 is_text && !Kind::Drawing.fits(front)
+            }
+            // The length of an image has 32 bits or 16, and what follows is none of the others.
+            Kind::Set => {
+                let others = [Kind::Image, Kind::Page, Kind::Drawing, Kind::Outline, Kind::Table];
+                !others.into_iter().any(|other| other.fits(front))
             }
             // Three bytes for each point, of which the first is a point's number.
             Kind::Table => {

@@ -6,7 +6,7 @@ use crate::command::output::{Kind, Target};
 use crate::command::replay::read_trace;
 use crate::command::service::{
     bill_for, open_service, serve_check, serve_handover, serve_replay, serve_replay_handover,
-    serve_trim, INDEPENDENT, SERVER,
+    serve_trim, SERVER,
 };
 use crate::command::{bill, json, print, words, Done, Status};
 use crate::text::compare::compared;
@@ -48,26 +48,10 @@ pub fn run(args: &[&str]) -> Done {
         out += &if json { as_json(asked, &answered) } else { as_words(asked, &answered) + "\n" };
     }
     if !options.json {
-        out += &format!("billed images: {}   ({})\n", numbers(&service), servers(&session));
+        out += &format!("billed images: {}   ({SERVER})\n", numbers(&service));
     }
     print(out)?;
     Ok(worst)
-}
-
-/// Who serves a call.
-fn server(wish: &Wish) -> &'static str {
-    match wish {
-        Wish::Check | Wish::Trim(_) | Wish::Bill(_) => SERVER,
-        Wish::Handover { .. } | Wish::Replay { .. } | Wish::Across { .. } => INDEPENDENT,
-    }
-}
-
-/// Who has served, where some calls have another server than bills.
-fn servers(session: &Session) -> String {
-    match session.calls.iter().all(|asked| server(&asked.wish) == SERVER) {
-        true => SERVER.into(),
-        false => format!("{SERVER}; handovers and traces: {INDEPENDENT}"),
-    }
 }
 
 /// The numbers of the callers that have a right or a number.
@@ -300,7 +284,7 @@ fn as_json(asked: &Asked, answered: &Answered) -> String {
             ("file", json::text(&asked.file)),
             ("code", answered.code.to_string()),
             ("words", json::text(&answered.words)),
-            ("server", json::text(server(&asked.wish))),
+            ("server", json::text(SERVER)),
         ],
     )
 }

@@ -1,93 +1,22 @@
-//! Who serves: the proved calls where their archive is linked (feature `proved`), else the independent ones.
+//! Who serves: the proved calls (feature `proved`), else the independent ones.
 
-/// Who serves where no archive is linked.
-pub const INDEPENDENT: &str = "independent service";
-
-#[cfg(not(proved_service))]
+#[cfg(feature = "proved")]
 mod linked {
-    pub const SERVER: &str = super::INDEPENDENT;
-    pub const BILLER: &str = "independent billing";
-
-    pub use reference::service::{open_service, serve_bill, serve_check, serve_trim};
-}
-
-#[cfg(proved_service)]
-mod linked {
+    use hidokpalu::calls;
+    pub use hidokpalu::calls::{open_service, serve_check, serve_handover};
+    use hidokpalu::Crossing;
     use reference::bill::Tariff;
+    use reference::handover::Across;
+    use reference::service::Run;
     use reference::trim::Answer;
 
     pub const SERVER: &str = "proved service";
     pub const BILLER: &str = "proved billing";
 
-    // include/hidokpalu.h says what the calls do.
-    mod calls {
-        extern "C" {
-            pub fn open_service(
-                rights: *const u8,
-                rights_len: usize,
-                service: *mut u32,
-                service_len: usize,
-            ) -> u16;
-            pub fn serve_check(
-                service: *const u32,
-                service_len: usize,
-                caller: usize,
-                image: *const u8,
-                image_len: usize,
-                out: *mut u8,
-                out_len: usize,
-            ) -> u16;
-            pub fn serve_trim(
-                service: *const u32,
-                service_len: usize,
-                caller: usize,
-                image: *const u8,
-                image_len: usize,
-                out: *mut u8,
-                out_len: usize,
-                written: *mut usize,
-            ) -> u16;
-            pub fn serve_bill(
-                service: *mut u32,
-                service_len: usize,
-                caller: usize,
-                image: *const u8,
-                image_len: usize,
-                start: u16,
-                step: u16,
-                taken: u16,
-                interference: u16,
-                least: u16,
-                answer: *mut u32,
-                answer_len: usize,
-            ) -> u16;
-        }
-    }
-
-    pub fn open_service(rights: &[u8], service: &mut [u32]) -> u16 {
-        let (given, count) = (rights.as_ptr(), rights.len());
-        let (to, numbers) = (service.as_mut_ptr(), service.len());
-        // SAFETY: pointers and lengths are those of slices that live until the call returns, what is written borrowed
-        // for writing alone, so none overlap; the function has no other precondition.
-        unsafe { calls::open_service(given, count, to, numbers) }
-    }
-
-    pub fn serve_check(service: &[u32], caller: usize, image: &[u8], out: &mut [u8]) -> u16 {
-        let (rights, numbers) = (service.as_ptr(), service.len());
-        let (from, length, to, room) = (image.as_ptr(), image.len(), out.as_mut_ptr(), out.len());
-        // SAFETY: as above.
-        unsafe { calls::serve_check(rights, numbers, caller, from, length, to, room) }
-    }
-
     pub fn serve_trim(service: &[u32], caller: usize, image: &[u8], out: &mut [u8]) -> Answer {
-        let (rights, numbers) = (service.as_ptr(), service.len());
-        let (from, length, to, room) = (image.as_ptr(), image.len(), out.as_mut_ptr(), out.len());
-        let mut written = 0;
-        // SAFETY: as above.
-        let code = unsafe {
-            calls::serve_trim(rights, numbers, caller, from, length, to, room, &mut written)
-        };
-        Answer { code, length: written }
+        let mut length = 0;
+        let code = calls::serve_trim(service, caller, image, out, &mut length);
+        Answer { code, length }
     }
 
     pub fn serve_bill(
@@ -98,32 +27,50 @@ mod linked {
         answer: &mut [u32],
     ) -> u16 {
         let Tariff { start, step, taken, interference, least } = *tariff;
-        let (state, numbers) = (service.as_mut_ptr(), service.len());
-        let (from, length) = (image.as_ptr(), image.len());
-        let (to, room) = (answer.as_mut_ptr(), answer.len());
-        // SAFETY: as above.
-        unsafe {
-            calls::serve_bill(
-                state,
-                numbers,
-                caller,
-                from,
-                length,
-                start,
-                step,
-                taken,
-                interference,
-                least,
-                to,
-                room,
-            )
-        }
+        let tariff = hidokpalu::Tariff { start, step, taken, interference, least };
+        calls::serve_bill(service, caller, image, &tariff, answer)
+    }
+
+    pub fn serve_replay(
+        service: &[u32],
+        caller: usize,
+        run: &Run,
+        table: &mut [u8],
+        answer: &mut [usize],
+    ) -> u16 {
+        let run = hidokpalu::Run { image: run.image, trace: run.trace, given: run.given };
+        calls::serve_replay(service, caller, &run, table, answer)
+    }
+
+    pub fn serve_replay_handover(
+        service: &[u32],
+        caller: usize,
+        run: &Across,
+        table: &mut [u8],
+        answer: &mut [usize],
+    ) -> u16 {
+        let Across { old, new, points, traces } = *run;
+        let (first, second, given) = (traces.first, traces.second, traces.given);
+        let run = Crossing { old, new, points, first, second, given };
+        calls::serve_replay_handover(service, caller, &run, table, answer)
     }
 }
 
-pub use linked::{open_service, serve_bill, serve_check, serve_trim, BILLER, SERVER};
-// The calls about handovers and traces are the independent ones in any case, and the answers say so.
-pub use reference::service::{serve_handover, serve_replay, serve_replay_handover};
+#[cfg(not(feature = "proved"))]
+mod linked {
+    pub use reference::service::{
+        open_service, serve_bill, serve_check, serve_handover, serve_replay, serve_replay_handover,
+        serve_trim,
+    };
+
+    pub const SERVER: &str = "independent service";
+    pub const BILLER: &str = "independent billing";
+}
+
+pub use linked::{
+    open_service, serve_bill, serve_check, serve_handover, serve_replay, serve_replay_handover,
+    serve_trim, BILLER, SERVER,
+};
 
 use reference::bill::{Bill, Tariff, ANSWER};
 use reference::service::{Right, CALLERS, SERVICE};

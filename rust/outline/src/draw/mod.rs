@@ -207,14 +207,14 @@ fn framed(canvas: Canvas, title: &str) -> Element {
         .with("width", width)
         .with("height", height)
         .with("viewBox", format!("0 0 {width} {height}"))
-        .add(el("title").text(title))
-        .add(el("style").style(STYLE))
-        .add(el("defs").all([
+        .child(el("title").text(title))
+        .child(el("style").style(STYLE))
+        .child(el("defs").all([
             head("run-read-head", "run-read-tip"),
             head("run-sync-head", "run-sync-tip"),
             hatch(),
         ]))
-        .add(paper)
+        .child(paper)
         .all(canvas.into_items())
 }
 
@@ -223,12 +223,13 @@ fn head(id: &'static str, class: &'static str) -> Element {
     let marker = el("marker").with("id", id).with("viewBox", "0 0 10 10").with("refX", 9);
     let marker = marker.with("refY", 5).with("markerWidth", 9).with("markerHeight", 9);
     let marker = marker.with("markerUnits", "userSpaceOnUse").with("orient", "auto");
-    marker.add(el("path").with("d", "M0 0 L10 5 L0 10 z").with("class", class))
+    marker.child(el("path").with("d", "M0 0 L10 5 L0 10 z").with("class", class))
 }
 
 /// The hatching of covered writes.
 fn hatch() -> Element {
     let pattern = el("pattern").with("id", "run-hatch").with("width", 7).with("height", 7);
     let pattern = pattern.with("patternUnits", "userSpaceOnUse");
-    pattern.add(el("path").with("d", "M-2 2 L2 -2 M0 7 L7 0 M5 9 L9 5").with("class", "run-hatch"))
+    pattern
+        .child(el("path").with("d", "M-2 2 L2 -2 M0 7 L7 0 M5 9 L9 5").with("class", "run-hatch"))
 }

@@ -20,7 +20,7 @@ pub fn section(content: &Content) -> Element {
     let out = parts::section("claims", "Claims");
     let all = claims(content);
     if all.is_empty() {
-        return out.add(note("The image makes no claim besides its assertions."));
+        return out.child(note("The image makes no claim besides its assertions."));
     }
     let shown = match content.accepted {
         true => "Shown, and true in every run:".to_string(),
@@ -28,7 +28,7 @@ pub fn section(content: &Content) -> Element {
     };
     let mut trees = Trees::of(content);
     let list = all.iter().map(|(judged, meeting)| item(content, &mut trees, judged, meeting));
-    out.add(note(&shown)).add(of("ul", "claims").all(list.collect::<Vec<_>>()))
+    out.child(note(&shown)).child(of("ul", "claims").all(list.collect::<Vec<_>>()))
 }
 
 fn item(content: &Content, trees: &mut Trees, judged: &Judged, meeting: &Meeting) -> Element {
@@ -39,10 +39,10 @@ fn item(content: &Content, trees: &mut Trees, judged: &Judged, meeting: &Meeting
         _ => said.to_string(),
     };
     let claimed = if content.accepted { "" } else { "Claimed: " };
-    let words = el("span").text(claimed).add(sentence(content, meeting));
-    let words = words.text(" ").add(of("span", class).text(said));
+    let words = el("span").text(claimed).child(sentence(content, meeting));
+    let words = words.text(" ").child(of("span", class).text(said));
     match judged.line {
-        0 => el("li").add(words),
+        0 => el("li").child(words),
         line => el("li").all(opened(words, trees.tree(line))),
     }
 }
@@ -50,7 +50,7 @@ fn item(content: &Content, trees: &mut Trees, judged: &Judged, meeting: &Meeting
 /// A claim in words.
 pub fn sentence(content: &Content, meeting: &Meeting) -> Element {
     let at = |thread: u8, p: u8| point(&content.words.names, thread, p);
-    let first = el("span").add(at(meeting.thread, meeting.point)).text(" and ");
-    let both = first.add(at(meeting.other_thread, meeting.other_point));
+    let first = el("span").child(at(meeting.thread, meeting.point)).text(" and ");
+    let both = first.child(at(meeting.other_thread, meeting.other_point));
     both.text(" never meet.")
 }

@@ -93,20 +93,20 @@ pub fn duty_element(content: &Content, duty: &Duty) -> Element {
     let act = |t: u8, p: u8| code(&instruction(content, t, p));
     let out = el("span");
     match *duty {
-        Duty::Start { thread } => out.text("The start gives ").add(at(thread, 0)),
+        Duty::Start { thread } => out.text("The start gives ").child(at(thread, 0)),
         Duty::Next { thread, point } => {
             let branch = program.instruction(thread, point).is_some_and(|i| i.is_branch());
             let way = if branch { ", not taken, leads from " } else { " leads from " };
-            let out = out.add(act(thread, point)).text(way).add(at(thread, point));
+            let out = out.child(act(thread, point)).text(way).child(at(thread, point));
             out.text(format!(" to {}", names.point(thread, point + 1)))
         }
         Duty::Taken { thread, point } => {
-            let out = out.add(act(thread, point)).text(", taken, leads from ");
-            out.add(at(thread, point)).text(" to its target")
+            let out = out.child(act(thread, point)).text(", taken, leads from ");
+            out.child(at(thread, point)).text(" to its target")
         }
         Duty::Kept { thread, point, actor, action } => {
-            let out = out.add(at(thread, point)).text(" survives ").add(act(actor, action));
-            out.text(" of ").add(at(actor, action))
+            let out = out.child(at(thread, point)).text(" survives ").child(act(actor, action));
+            out.text(" of ").child(at(actor, action))
         }
     }
 }
@@ -122,7 +122,7 @@ pub fn wanted(content: &Content, goal: &Goal) -> Element {
             ("to", code("false")),
         ],
     };
-    let row = |(name, value): (&str, Element)| [el("dt").text(name), el("dd").add(value)];
+    let row = |(name, value): (&str, Element)| [el("dt").text(name), el("dd").child(value)];
     of("dl", "wanted").all(rows.into_iter().flat_map(row))
 }
 

@@ -105,8 +105,8 @@ pub fn page(subject: &Subject) -> String {
     }
     links.push(("trust", "What is proved"));
     sections.push(trust::section(subject.judge));
-    let main = el("main").add(heading(subject)).add(contents(&links)).all(sections);
-    let html = el("html").with("lang", "en").add(head(subject)).add(el("body").add(main));
+    let main = el("main").child(heading(subject)).child(contents(&links)).all(sections);
+    let html = el("html").with("lang", "en").child(head(subject)).child(el("body").child(main));
     format!("<!DOCTYPE html>\n{}\n", html.written())
 }
 
@@ -116,28 +116,29 @@ fn head(subject: &Subject) -> Element {
     };
     let word = if subject.is_accepted() { "accepted" } else { "refused" };
     el("head")
-        .add(el("meta").with("charset", "utf-8"))
-        .add(el("meta").with("http-equiv", "Content-Security-Policy").with("content", POLICY))
-        .add(meta("viewport", "width=device-width, initial-scale=1"))
-        .add(meta("color-scheme", "light dark"))
-        .add(el("title").text(format!("{}: {word}", subject.file)))
-        .add(el("style").style(STYLE))
+        .child(el("meta").with("charset", "utf-8"))
+        .child(el("meta").with("http-equiv", "Content-Security-Policy").with("content", POLICY))
+        .child(meta("viewport", "width=device-width, initial-scale=1"))
+        .child(meta("color-scheme", "light dark"))
+        .child(el("title").text(format!("{}: {word}", subject.file)))
+        .child(el("style").style(STYLE))
 }
 
 /// The file, and what its author says of it.
 fn heading(subject: &Subject) -> Element {
-    let top = el("header").add(of("p", "kind").text("Report on a proof outline"));
-    let top = top.add(el("h1").text(subject.file));
+    let top = el("header").child(of("p", "kind").text("Report on a proof outline"));
+    let top = top.child(el("h1").text(subject.file));
     let said = subject.about.iter().map(|text| of("p", "about").text(text));
     let mark = of("p", "note").text("In the author’s words, from the file’s comment; not checked.");
     match subject.about.is_empty() {
         true => top,
-        false => top.all(said).add(mark),
+        false => top.all(said).child(mark),
     }
 }
 
 fn contents(links: &[(&'static str, &'static str)]) -> Element {
-    let link =
-        |(id, text): &(&str, &str)| el("li").add(el("a").with("href", format!("#{id}")).text(text));
-    el("nav").with("aria-label", "On this page").add(el("ul").all(links.iter().map(link)))
+    let link = |(id, text): &(&str, &str)| {
+        el("li").child(el("a").with("href", format!("#{id}")).text(text))
+    };
+    el("nav").with("aria-label", "On this page").child(el("ul").all(links.iter().map(link)))
 }

@@ -24,8 +24,8 @@ pub fn section(content: &Content) -> Element {
     let heads = el("tr").all(heads.map(|text| el("th").with("scope", "col").text(text)));
     let mut trees = Trees::of(content);
     let bodies: Vec<Element> = (1..=4).filter_map(|class| body(&mut trees, &all, class)).collect();
-    let table = of("table", "obligations").add(el("thead").add(heads)).all(bodies);
-    parts::section("obligations", "Obligations").add(note(&said)).add(table)
+    let table = of("table", "obligations").child(el("thead").child(heads)).all(bodies);
+    parts::section("obligations", "Obligations").child(note(&said)).child(table)
 }
 
 /// The obligations with their answers.
@@ -46,10 +46,10 @@ fn body(trees: &mut Trees, all: &[(&Judged, Duty)], class: u8) -> Option<Element
     let have = if trees.content.accepted { "met" } else { "have their lines" };
     let count = of("span", "count").text(format!("{there} of {} {have}", own.len()));
     let title = el("th").with("colspan", 4).with("scope", "rowgroup").text(title);
-    let title = of("tr", "class").add(title.text(" ").add(count));
+    let title = of("tr", "class").child(title.text(" ").child(count));
     let rows: Vec<Element> =
         own.iter().map(|(n, (judged, duty))| row(trees, *n, judged, duty)).collect();
-    (!own.is_empty()).then(|| el("tbody").add(title).all(rows))
+    (!own.is_empty()).then(|| el("tbody").child(title).all(rows))
 }
 
 fn row(trees: &mut Trees, number: usize, judged: &Judged, duty: &Duty) -> Element {
@@ -60,12 +60,12 @@ fn row(trees: &mut Trees, number: usize, judged: &Judged, duty: &Duty) -> Elemen
     let words = duty_element(content, duty);
     let what = match line {
         Some(_) => of("td", "what").all(opened(words, trees.tree(judged.line))),
-        None => of("td", "what").add(of("p", "unnamed").add(words)),
+        None => of("td", "what").child(of("p", "unnamed").child(words)),
     };
     let (class, said) = answer(judged.standing(content.accepted));
     el("tr")
-        .add(of("td", "no").text(number))
-        .add(what)
-        .add(of("td", "rule").with("title", title).text(rule))
-        .add(of("td", class).text(said))
+        .child(of("td", "no").text(number))
+        .child(what)
+        .child(of("td", "rule").with("title", title).text(rule))
+        .child(of("td", class).text(said))
 }

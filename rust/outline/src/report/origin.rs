@@ -9,11 +9,11 @@ use crate::text::print::Names;
 
 /// What a contract quotes besides the record.
 pub fn facts(subject: &Subject) -> Vec<[Element; 2]> {
-    let fact = |name: &str, value: Element| [el("dt").text(name), el("dd").add(value)];
+    let fact = |name: &str, value: Element| [el("dt").text(name), el("dd").child(value)];
     let text = |text: &str| el("span").text(text);
     let sha = |bytes: &[u8], id: &'static str| {
         let size = format!("{} bytes, SHA-256 ", grouped(bytes.len()));
-        el("span").text(size).add(code(&digest(bytes)).with("id", id))
+        el("span").text(size).child(code(&digest(bytes)).with("id", id))
     };
     let judge = match subject.judge == PROVED {
         true => format!("the {PROVED}"),

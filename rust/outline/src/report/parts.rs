@@ -8,7 +8,7 @@ use crate::text::print::Names;
 /// A section with its heading; its name is what links go to.
 pub fn section(id: &'static str, title: &str) -> Element {
     let title = el("h2").with("id", format!("{id}-title")).text(title);
-    el("section").with("id", id).with("aria-labelledby", format!("{id}-title")).add(title)
+    el("section").with("id", id).with("aria-labelledby", format!("{id}-title")).child(title)
 }
 
 pub fn code(text: &str) -> Element {
@@ -21,8 +21,8 @@ pub fn note(text: &str) -> Element {
 
 /// What a click on a summary opens stands beside it and not in it, so that paper shows it, opened or not.
 pub fn opened(summary: Element, inner: Element) -> [Element; 2] {
-    let details = of("details", "opener").add(el("summary").add(summary));
-    [details, of("div", "opened").add(inner)]
+    let details = of("details", "opener").child(el("summary").child(summary));
+    [details, of("div", "opened").child(inner)]
 }
 
 /// The name under which a point stands on the page.
@@ -51,7 +51,7 @@ pub fn formula(words: &Words, text: &str) -> Element {
         let end = rest.find(|c| !same(c)).unwrap_or(rest.len());
         let (piece, behind) = rest.split_at(end);
         out = match words.lets.iter().position(|(name, _)| name == piece) {
-            Some(n) => out.add(let_link(words, n)),
+            Some(n) => out.child(let_link(words, n)),
             None => out.text(piece),
         };
         rest = behind;

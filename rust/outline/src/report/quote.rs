@@ -13,7 +13,7 @@ pub fn section(subject: &Subject, content: &Content) -> Element {
     if !content.accepted {
         let said =
             format!("{REFUSED} nothing may be quoted but that, and the run if one is drawn.");
-        return out.add(note(&said));
+        return out.child(note(&said));
     }
     let front = format!("Of {}, whose image has the digest below, in {EVERY_ORDER}:", subject.file);
     let claims = claims(content);
@@ -22,7 +22,7 @@ pub fn section(subject: &Subject, content: &Content) -> Element {
     let last = last.iter().map(|(thread, text)| {
         let name = content.words.names.thread(*thread);
         let front = format!("Whenever {name} is at its last point, ");
-        el("li").text(front).add(formula(&content.words, text)).text(" is true.")
+        el("li").text(front).child(formula(&content.words, text)).text(" is true.")
     });
     let list: Vec<Element> = claims.into_iter().chain(last).collect();
     let none = "Neither a claim nor a last assertion says anything: quote the assertions of points, below.";
@@ -30,8 +30,8 @@ pub fn section(subject: &Subject, content: &Content) -> Element {
         true => el("p").text(none),
         false => el("ul").all(list),
     };
-    let quoted_box = of("blockquote", "quote").add(el("p").text(front)).add(said);
-    out.add(quoted_box.all(meanings(&content.words, &quoted))).add(note(MEANING))
+    let quoted_box = of("blockquote", "quote").child(el("p").text(front)).child(said);
+    out.child(quoted_box.all(meanings(&content.words, &quoted))).child(note(MEANING))
 }
 
 fn claims(content: &Content) -> Vec<Element> {
@@ -74,7 +74,7 @@ fn meanings(words: &Words, used: &[usize]) -> Option<Element> {
     used.dedup();
     let one = |at: &usize| {
         let (name, text) = &words.lets[*at];
-        el("li").text("where ").add(code(name)).text(" is ").add(code(text))
+        el("li").text("where ").child(code(name)).text(" is ").child(code(text))
     };
     (!used.is_empty()).then(|| el("ul").all(used.iter().map(one)))
 }

@@ -41,16 +41,16 @@ pub fn section(subject: &Subject, content: &Content) -> Element {
     let code =
         format!(" {} (Code {}; {before} before it have their lines.)", lacks(judged), judged.code);
     let title = el("h3").text("What the verdict names");
-    let first = el("p").text("Not met: ").add(goal_element(content, &judged.goal)).text(code);
-    let out = out.add(title).add(first).add(note(&kind(&judged.goal)));
-    let out = out.add(wanted(content, &judged.goal));
+    let first = el("p").text("Not met: ").child(goal_element(content, &judged.goal)).text(code);
+    let out = out.child(title).child(first).child(note(&kind(&judged.goal)));
+    let out = out.child(wanted(content, &judged.goal));
     let out = match content.tried.is_empty() {
         true => out,
-        false => out.add(tried(content)),
+        false => out.child(tried(content)),
     };
     match &content.diagnosis {
         Some(diagnosis) => {
-            out.add(el("h3").text("All that has no line")).add(open(content, diagnosis))
+            out.child(el("h3").text("All that has no line")).child(open(content, diagnosis))
         }
         None => out,
     }
@@ -60,10 +60,10 @@ pub fn section(subject: &Subject, content: &Content) -> Element {
 fn diagnosed(content: &Content, diagnosis: &Diagnosis, out: Element) -> Element {
     let (front, rest) =
         (opening(diagnosis.answer()), content.telling(|told| told.sentence(diagnosis)));
-    let said = el("p").add(of("strong", "false").text(front)).text(format!(" {rest}."));
+    let said = el("p").child(of("strong", "false").text(front)).text(format!(" {rest}."));
     match diagnosis.worst() {
-        Some(broken) => out.add(figure(content, &broken, said)),
-        None => out.add(said),
+        Some(broken) => out.child(figure(content, &broken, said)),
+        None => out.child(said),
     }
 }
 
@@ -77,9 +77,10 @@ fn lacks(judged: &Judged) -> String {
 /// The run, drawn.
 fn figure(content: &Content, broken: &Broken, said: Element) -> Element {
     let drawing = of("div", "drawing").with("tabindex", 0).with("role", "region");
-    let drawing = drawing.with("aria-label", "The run, drawn").add(picture(content, broken).svg());
+    let drawing =
+        drawing.with("aria-label", "The run, drawn").child(picture(content, broken).svg());
     let goes_on = of("p", "goes-on").text("The drawing goes on to the right: move it sideways.");
-    of("figure", "run-figure").add(said).add(goes_on).add(drawing)
+    of("figure", "run-figure").child(said).child(goes_on).child(drawing)
 }
 
 /// The drawing of a run that breaks something.
@@ -104,7 +105,11 @@ fn open(content: &Content, diagnosis: &Diagnosis) -> Element {
     let item = |checked: &&Checked| {
         let (word, said) = found(checked);
         let mark = of("strong", if checked.finding.rank() == 0 { "false" } else { "unproved" });
-        el("li").add(goal_element(content, &checked.goal)).text(" ").add(mark.text(word)).text(said)
+        el("li")
+            .child(goal_element(content, &checked.goal))
+            .text(" ")
+            .child(mark.text(word))
+            .text(said)
     };
     of("ul", "open-goals").all(goals.iter().map(item))
 }

@@ -32,11 +32,11 @@ impl<'a> Trees<'a> {
         while let Some((number, depth)) = stack.pop() {
             if self.left == 0 {
                 let more = "More lines than a page holds: outline explain tells them all.";
-                return out.add(of("li", "more").text(more));
+                return out.child(of("li", "more").text(more));
             }
             self.left -= 1;
             let again = !told.insert(number);
-            out = out.add(self.line(number, depth, again));
+            out = out.child(self.line(number, depth, again));
             if !again {
                 let premises = &self.content.image.written.lines[usize::from(number) - 1].premises;
                 stack.extend(premises.iter().rev().map(|premise| (*premise, depth + 1)));
@@ -49,7 +49,7 @@ impl<'a> Trees<'a> {
         let line = &self.content.image.written.lines[usize::from(number) - 1];
         let title = rules::title(line.rule);
         let head = of("span", "by").text(format!("line {number}, rule {}: {title}", line.rule));
-        let out = el("li").with("style", format!("--depth:{depth}")).add(head);
+        let out = el("li").with("style", format!("--depth:{depth}")).child(head);
         let formula = |number: u16| code(&self.formulas[usize::from(number) - 1]);
         let names = &self.content.words.names;
         let middle = match self.content.image.program.instruction(line.thread, line.point) {
@@ -62,10 +62,10 @@ impl<'a> Trees<'a> {
             }
             None => arrow(line.rule).to_string(),
         };
-        let left = out.add(formula(line.left)).add(of("span", "then").text(middle));
-        let out = left.add(formula(line.right));
+        let left = out.child(formula(line.left)).child(of("span", "then").text(middle));
+        let out = left.child(formula(line.right));
         match again && !line.premises.is_empty() {
-            true => out.add(of("span", "again").text("(its premises: above)")),
+            true => out.child(of("span", "again").text("(its premises: above)")),
             false => out,
         }
     }

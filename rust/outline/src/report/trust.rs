@@ -34,12 +34,12 @@ const LINES: [(&str, &str); 5] = [
 
 pub fn section(judge: &str) -> Element {
     let line =
-        |(word, text): (&str, &str)| el("li").add(el("strong").text(word)).text(" ").text(text);
+        |(word, text): (&str, &str)| el("li").child(el("strong").text(word)).text(" ").text(text);
     let out = parts::section("trust", "What is proved, and what must be believed");
-    let out = out.add(el("ul").all(LINES.into_iter().map(line)));
+    let out = out.child(el("ul").all(LINES.into_iter().map(line)));
     match judge == PROVED {
         true => out,
-        false => out.add(note(
+        false => out.child(note(
             "This verdict is the independent checker’s, which is compared with the proved one but not itself proved. \
              The theorem speaks of the proved checker: hand it the same image.",
         )),

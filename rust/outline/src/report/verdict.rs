@@ -13,9 +13,9 @@ const FIELDS: [&str; 9] =
 
 pub fn section(subject: &Subject) -> Element {
     parts::section("verdict", "Verdict")
-        .add(banner(subject))
-        .add(facts(subject))
-        .add(fields(subject))
+        .child(banner(subject))
+        .child(facts(subject))
+        .child(fields(subject))
 }
 
 fn banner(subject: &Subject) -> Element {
@@ -23,15 +23,15 @@ fn banner(subject: &Subject) -> Element {
         true => ("verdict accepted", "Accepted"),
         false => ("verdict refused", "Refused"),
     };
-    let said = of("p", "sentence").add(of("strong", "word").text(word)).text(" ");
-    of("div", class).add(said.text(sentence(subject)))
+    let said = of("p", "sentence").child(of("strong", "word").text(word)).text(" ");
+    of("div", class).child(said.text(sentence(subject)))
 }
 
 /// What a contract quotes.
 fn facts(subject: &Subject) -> Element {
     let record: Vec<String> = subject.verdict.record().iter().map(|b| format!("{b:02x}")).collect();
     let record = code(&record.join(" ")).with("id", "record");
-    let record = [el("dt").text("Record"), el("dd").add(record)];
+    let record = [el("dt").text("Record"), el("dd").child(record)];
     of("dl", "facts").all([record].into_iter().chain(origin::facts(subject)).flatten())
 }
 
@@ -39,7 +39,7 @@ fn facts(subject: &Subject) -> Element {
 fn fields(subject: &Subject) -> Element {
     let values = subject.verdict.fields();
     let cell = |(name, value): (&str, &u16)| {
-        of("div", "field").add(el("dt").text(name)).add(el("dd").text(value))
+        of("div", "field").child(el("dt").text(name)).child(el("dd").text(value))
     };
     of("dl", "fields").all(FIELDS.into_iter().zip(&values).map(cell))
 }

@@ -67,7 +67,7 @@ fn commands_that_accept_fit_the_schema() {
     let (old, new) = (example("update/old"), example("update/new"));
     let (handed, table) = (folder.file("new.image"), folder.file("new.table"));
     let asked = folder.with("asked.program", ASKED);
-    let commands: [&[&str]; 13] = [
+    let commands: [&[&str]; 14] = [
         &["build", &text, "-o", &image],
         &["infer", &asked, "-o", &folder.file("found.outline")],
         &["check", &text, &image],
@@ -81,6 +81,7 @@ fn commands_that_accept_fit_the_schema() {
         &["bill", &text, "--tariff", &tariff],
         &["replay", &text, &trace],
         &["handover", &old, &new, "-o", &handed, "--table", &table],
+        &["migrate", "actors", &image, "-o", &folder.file("m.image")],
     ];
     for args in commands {
         answers(args);

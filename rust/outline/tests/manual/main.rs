@@ -2,6 +2,7 @@
 //!
 //! The manual's fenced blocks are marked; the manual's last section says how.
 
+mod atomics;
 mod blocks;
 mod inferred;
 mod instances;

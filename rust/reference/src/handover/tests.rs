@@ -65,9 +65,9 @@ fn image(header: Header, values: &[u8], outline: &[A], spare: Vec<Lemma>) -> Vec
     for (point, &value) in values.iter().enumerate() {
         obligations.push(assigned(point as u8, (&outline[point], &outline[point + 1]), value));
     }
-    for point in 0..values.len() {
+    for (point, assertion) in outline.iter().enumerate().take(values.len()) {
         let kept = triple(2, (1, point as u8), truth(), truth(), &[]);
-        let both = Assertion::both(truth(), outline[point].clone());
+        let both = Assertion::both(truth(), assertion.clone());
         let first = implies(20, both, truth(), &[]);
         obligations.push(around(&first, &kept, &implies(20, truth(), truth(), &[])));
     }

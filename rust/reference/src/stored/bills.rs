@@ -2,7 +2,7 @@
 //! (16 bits each); how many images are billed (32 bits); how many numbers of answer are lent (32 bits); the code (16
 //! bits) and the six numbers of the answer (32 bits each), which are all 0 with code 1.
 
-use super::{length, number, take};
+use super::{all, body, holds, length, number, take, tariff};
 use crate::bill::{bill_into, Tariff, ANSWER, ANSWER_TOO_SHORT};
 
 /// What a call is given, and what it leaves.
@@ -19,24 +19,13 @@ pub struct Case<'a> {
 const BEFORE: u32 = 0xA5A5_A5A5;
 
 /// The cases of a container; none if it is cut short.
-pub fn cases(mut bytes: &[u8]) -> Option<Vec<Case<'_>>> {
-    let mut cases = Vec::new();
-    while !bytes.is_empty() {
-        cases.push(case(&mut bytes)?);
-    }
-    Some(cases)
+pub fn cases(bytes: &[u8]) -> Option<Vec<Case<'_>>> {
+    all(bytes, case)
 }
 
 fn case<'a>(bytes: &mut &'a [u8]) -> Option<Case<'a>> {
-    let image = length(bytes)?;
-    let image = take(bytes, image)?;
-    let tariff = Tariff {
-        start: number(bytes)?,
-        step: number(bytes)?,
-        taken: number(bytes)?,
-        interference: number(bytes)?,
-        least: number(bytes)?,
-    };
+    let image = body(bytes)?;
+    let tariff = tariff(bytes)?;
     let billed = long_number(bytes)?;
     let room = length(bytes)?;
     let code = number(bytes)?;
@@ -62,7 +51,6 @@ impl Case<'_> {
         let mut answer = vec![BEFORE; self.room];
         let code = bill_into(self.image, &self.tariff, self.billed, &mut answer);
         let written = if self.code == ANSWER_TOO_SHORT { &[][..] } else { &self.answer };
-        let (front, behind) = answer.split_at(written.len().min(self.room));
-        code == self.code && front == written && behind.iter().all(|&number| number == BEFORE)
+        code == self.code && holds(&answer, written, BEFORE)
     }
 }

@@ -1,7 +1,7 @@
 //! Stored handovers. In front how many bytes follow (32 bits) of old image, new image and table; then of the first two how
 //! many bytes each has (32 bits); the code (16 bits).
 
-use super::{length, number, take};
+use super::{all, body, length, number, take};
 use crate::handover::check_handover;
 
 /// What a call is given, and what it answers.
@@ -13,17 +13,12 @@ pub struct Case<'a> {
 }
 
 /// The cases of a container; none if it is cut short.
-pub fn cases(mut bytes: &[u8]) -> Option<Vec<Case<'_>>> {
-    let mut cases = Vec::new();
-    while !bytes.is_empty() {
-        cases.push(case(&mut bytes)?);
-    }
-    Some(cases)
+pub fn cases(bytes: &[u8]) -> Option<Vec<Case<'_>>> {
+    all(bytes, case)
 }
 
 fn case<'a>(bytes: &mut &'a [u8]) -> Option<Case<'a>> {
-    let parts = length(bytes)?;
-    let mut parts = take(bytes, parts)?;
+    let mut parts = body(bytes)?;
     let (old, new) = (length(bytes)?, length(bytes)?);
     let (old, new) = (take(&mut parts, old)?, take(&mut parts, new)?);
     Some(Case { old, new, table: parts, code: number(bytes)? })

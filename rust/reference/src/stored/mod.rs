@@ -13,6 +13,7 @@ pub mod replays;
 pub mod service;
 pub mod trims;
 
+use crate::bill::Tariff;
 use crate::checker::check;
 use crate::formula::parse::{parse, Counts, Fault};
 use crate::formula::Sort;
@@ -42,19 +43,48 @@ fn number(bytes: &mut &[u8]) -> Option<u16> {
     Some(u16::from_le_bytes([pair[0], pair[1]]))
 }
 
-/// The cases of a container of images; none if it is cut short.
-pub fn stored_images(mut bytes: &[u8]) -> Option<Vec<StoredImage<'_>>> {
+/// The body in front of a case: how many bytes follow (32 bits), and these.
+fn body<'a>(bytes: &mut &'a [u8]) -> Option<&'a [u8]> {
+    let count = length(bytes)?;
+    take(bytes, count)
+}
+
+/// The prices of the classes 1 to 4 and the least charge (16 bits each).
+fn tariff(bytes: &mut &[u8]) -> Option<Tariff> {
+    Some(Tariff {
+        start: number(bytes)?,
+        step: number(bytes)?,
+        taken: number(bytes)?,
+        interference: number(bytes)?,
+        least: number(bytes)?,
+    })
+}
+
+/// The cases of a container, one behind the other, each read from the front; none if the last is cut short.
+fn all<'a, C>(mut bytes: &'a [u8], case: impl Fn(&mut &'a [u8]) -> Option<C>) -> Option<Vec<C>> {
     let mut cases = Vec::new();
     while !bytes.is_empty() {
-        let length = length(&mut bytes)?;
-        let image = take(&mut bytes, length)?;
-        let mut fields = [0; 9];
-        for field in &mut fields {
-            *field = number(&mut bytes)?;
-        }
-        cases.push(StoredImage { image, fields });
+        cases.push(case(&mut bytes)?);
     }
     Some(cases)
+}
+
+/// Whether a buffer has these in front, and behind them what was there before.
+fn holds<T: Copy + PartialEq>(room: &[T], front: &[T], before: T) -> bool {
+    let (start, behind) = room.split_at(front.len().min(room.len()));
+    start == front && behind.iter().all(|&item| item == before)
+}
+
+/// The cases of a container of images; none if it is cut short.
+pub fn stored_images(bytes: &[u8]) -> Option<Vec<StoredImage<'_>>> {
+    all(bytes, |bytes| {
+        let image = body(bytes)?;
+        let mut fields = [0; 9];
+        for field in &mut fields {
+            *field = number(bytes)?;
+        }
+        Some(StoredImage { image, fields })
+    })
 }
 
 /// For each case of a container of images whether its verdict is still the same.
@@ -64,19 +94,15 @@ pub fn images(bytes: &[u8]) -> Option<Vec<bool>> {
 }
 
 /// For each case of a container of formulas whether its answer is still the same.
-pub fn formulas(mut bytes: &[u8]) -> Option<Vec<bool>> {
-    let mut results = Vec::new();
-    while !bytes.is_empty() {
-        let length = length(&mut bytes)?;
-        let formula = take(&mut bytes, length)?;
-        let &[threads, words, registers, range] = take(&mut bytes, 4)? else {
+pub fn formulas(bytes: &[u8]) -> Option<Vec<bool>> {
+    all(bytes, |bytes| {
+        let formula = body(bytes)?;
+        let &[threads, words, registers, range] = take(bytes, 4)? else {
             return None;
         };
         let counts = Counts { threads, words, registers, range };
-        let stored = [number(&mut bytes)?, number(&mut bytes)?];
-        results.push(answer(formula, counts) == stored);
-    }
-    Some(results)
+        Some(answer(formula, counts) == [number(bytes)?, number(bytes)?])
+    })
 }
 
 /// The result and sort of a formula: 0 accepted, 6 or 7; sort 0 if refused.

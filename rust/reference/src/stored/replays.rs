@@ -2,7 +2,7 @@
 //! written; then of the first three how many bytes each has, how many bytes of table and how many numbers of answer are
 //! lent (32 bits each); the code (16 bits) and the 21 numbers of the answer (32 bits each), which are all 0 with code 1.
 
-use super::{length, number, take};
+use super::{all, body, holds, length, number, take};
 use crate::replay::{replay, ANSWER, ANSWER_TOO_SHORT};
 
 /// What a call is given, and what it leaves.
@@ -10,6 +10,11 @@ pub struct Case<'a> {
     pub image: &'a [u8],
     pub trace: &'a [u8],
     pub given: &'a [u8],
+    pub told: Told<'a>,
+}
+
+/// What a replay is lent, and what it leaves there.
+pub struct Told<'a> {
     /// How many bytes of table are lent.
     pub table: usize,
     /// How many numbers of answer are lent.
@@ -21,32 +26,19 @@ pub struct Case<'a> {
 }
 
 /// What stands in a table and in an answer before the call.
-pub(super) const BEFORE: u8 = 0xA5;
-pub(super) const NUMBER_BEFORE: usize = 0xA5A5_A5A5;
+const BEFORE: u8 = 0xA5;
+const NUMBER_BEFORE: usize = 0xA5A5_A5A5;
 
 /// The cases of a container; none if it is cut short.
-pub fn cases(mut bytes: &[u8]) -> Option<Vec<Case<'_>>> {
-    let mut cases = Vec::new();
-    while !bytes.is_empty() {
-        cases.push(case(&mut bytes)?);
-    }
-    Some(cases)
+pub fn cases(bytes: &[u8]) -> Option<Vec<Case<'_>>> {
+    all(bytes, case)
 }
 
 fn case<'a>(bytes: &mut &'a [u8]) -> Option<Case<'a>> {
-    let parts = length(bytes)?;
-    let mut parts = take(bytes, parts)?;
-    let (image, trace, given) = (length(bytes)?, length(bytes)?, length(bytes)?);
-    let image = take(&mut parts, image)?;
-    let trace = take(&mut parts, trace)?;
-    let given = take(&mut parts, given)?;
-    let (table, numbers) = (length(bytes)?, length(bytes)?);
-    let code = number(bytes)?;
-    let mut answer = [0; ANSWER];
-    for number in &mut answer {
-        *number = length(bytes)?;
-    }
-    Some(Case { image, trace, given, table, numbers, code, answer, written: parts })
+    let mut parts = body(bytes)?;
+    let mut part = || take(&mut parts, length(bytes)?);
+    let (image, trace, given) = (part()?, part()?, part()?);
+    Some(Case { image, trace, given, told: Told::read(bytes, parts)? })
 }
 
 /// For each case of a container whether its answer and its table are still the same.
@@ -56,18 +48,31 @@ pub fn judged(bytes: &[u8]) -> Option<Vec<bool>> {
 
 impl Case<'_> {
     fn is_answered(&self) -> bool {
+        self.told
+            .is_left_by(|table, answer| replay(self.image, self.trace, self.given, table, answer))
+    }
+}
+
+impl<'a> Told<'a> {
+    /// From the front of what follows the lengths of a case's parts; `written` is the rest of its body.
+    pub(super) fn read(bytes: &mut &[u8], written: &'a [u8]) -> Option<Told<'a>> {
+        let (table, numbers) = (length(bytes)?, length(bytes)?);
+        let code = number(bytes)?;
+        let mut answer = [0; ANSWER];
+        for number in &mut answer {
+            *number = length(bytes)?;
+        }
+        Some(Told { table, numbers, code, answer, written })
+    }
+
+    /// Whether a call leaves this in a table and an answer of these sizes, and what was behind it as it was.
+    pub(super) fn is_left_by(&self, call: impl Fn(&mut [u8], &mut [usize]) -> u16) -> bool {
         let mut table = vec![BEFORE; self.table];
         let mut answer = vec![NUMBER_BEFORE; self.numbers];
-        let code = replay(self.image, self.trace, self.given, &mut table, &mut answer);
+        let code = call(&mut table, &mut answer);
         let numbers = if self.code == ANSWER_TOO_SHORT { &[][..] } else { &self.answer };
         code == self.code
             && holds(&table, self.written, BEFORE)
             && holds(&answer, numbers, NUMBER_BEFORE)
     }
-}
-
-/// Whether these are in front, and what was there before behind them.
-pub(super) fn holds<T: Copy + PartialEq>(room: &[T], front: &[T], before: T) -> bool {
-    let (start, behind) = room.split_at(front.len().min(room.len()));
-    start == front && behind.iter().all(|&item| item == before)
 }

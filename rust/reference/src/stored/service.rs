@@ -1,7 +1,8 @@
 //! Stored turns of several callers, in the order in which one service answers them. In front how many bytes follow (32 bits)
 //! of what is read, all parts of it in a row; then
 //!
-//! - what is done (16 bits, [`TurnKind`]), and by whom (32 bits);
+//! - what is done (8 bits, [`TurnKind`]), how many of the sixteen numbers of the service are not lent (8 bits), and by whom
+//!   (32 bits);
 //! - how many bytes each of the first five parts has (32 bits each); the sixth has the rest;
 //! - how many bytes and how many numbers are lent (32 bits each), or the number that is set;
 //! - the prices of the classes 1 to 4 and the least charge (16 bits each);
@@ -9,7 +10,7 @@
 //! - the sixteen numbers of the service afterwards (32 bits each);
 //! - all 24 numbers (32 bits each) and all 64 bytes of which the front is lent, afterwards.
 
-use super::{length, number, take};
+use super::{all, body, length, number, take, tariff};
 use crate::bill::Tariff;
 use crate::service::{open_service, serve, Call, Lent, Request, Rooms, Update, CALLERS, SERVICE};
 
@@ -49,6 +50,8 @@ const BYTE_BEFORE: u8 = 0xAA;
 #[derive(Clone, Debug, PartialEq, Eq)]
 pub struct Turn {
     pub kind: TurnKind,
+    /// How many numbers of the service are lent.
+    pub service: usize,
     pub caller: usize,
     pub parts: [Vec<u8>; PARTS],
     pub bytes: usize,
@@ -81,11 +84,14 @@ impl Turn {
             bill: vec![NUMBER_BEFORE; NUMBERS],
             replay: vec![NUMBER_BEFORE as usize; NUMBERS],
         };
+        let service = &mut service[..self.service];
         let code = match (self.kind, self.request()) {
             (_, Some(request)) => serve(service, &Call { caller: self.caller, request }, &mut lent),
             (TurnKind::Open, None) => open_service(&self.parts[0], service),
             (_, None) => {
-                service[CALLERS + self.caller - 1] = self.numbers as u32;
+                if let Some(number) = service.get_mut(CALLERS + self.caller - 1) {
+                    *number = self.numbers as u32;
+                }
                 0
             }
         };
@@ -136,18 +142,15 @@ impl Turn {
 }
 
 /// The cases of a container; none if it is cut short.
-pub fn cases(mut bytes: &[u8]) -> Option<Vec<Case>> {
-    let mut cases = Vec::new();
-    while !bytes.is_empty() {
-        cases.push(case(&mut bytes)?);
-    }
-    Some(cases)
+pub fn cases(bytes: &[u8]) -> Option<Vec<Case>> {
+    all(bytes, case)
 }
 
 fn case(bytes: &mut &[u8]) -> Option<Case> {
-    let all = length(bytes)?;
-    let mut rest = take(bytes, all)?;
-    let kind = *TURN_KINDS.get(usize::from(number(bytes)?))?;
+    let mut rest = body(bytes)?;
+    let [kind, missing] = number(bytes)?.to_le_bytes();
+    let kind = *TURN_KINDS.get(usize::from(kind))?;
+    let service = SERVICE.checked_sub(missing.into())?;
     let caller = length(bytes)?;
     let mut parts: [Vec<u8>; PARTS] = Default::default();
     for part in &mut parts[..PARTS - 1] {
@@ -156,14 +159,8 @@ fn case(bytes: &mut &[u8]) -> Option<Case> {
     }
     parts[PARTS - 1] = rest.to_vec();
     let (lent, numbers) = (length(bytes)?, length(bytes)?);
-    let tariff = Tariff {
-        start: number(bytes)?,
-        step: number(bytes)?,
-        taken: number(bytes)?,
-        interference: number(bytes)?,
-        least: number(bytes)?,
-    };
-    let turn = Turn { kind, caller, parts, bytes: lent, numbers, tariff };
+    let tariff = tariff(bytes)?;
+    let turn = Turn { kind, service, caller, parts, bytes: lent, numbers, tariff };
     let (code, written) = (number(bytes)?, length(bytes)?);
     let service = longs(bytes)?;
     let numbers = longs(bytes)?;

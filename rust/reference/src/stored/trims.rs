@@ -1,7 +1,7 @@
 //! Stored cases of trimming. In front how many bytes follow (32 bits) of the image and what it is trimmed to (nothing with an
 //! error); then how many bytes the image has and how many of output are lent (32 bits each); the code (16 bits).
 
-use super::{length, number, take};
+use super::{all, body, holds, length, number, take};
 use crate::trim::{trim_into, Answer};
 
 /// What a call is given, and what it leaves.
@@ -16,17 +16,14 @@ pub struct Case<'a> {
 const BEFORE: u8 = 0xA5;
 
 /// The cases of a container; none if it is cut short.
-pub fn cases(mut bytes: &[u8]) -> Option<Vec<Case<'_>>> {
-    let mut cases = Vec::new();
-    while !bytes.is_empty() {
-        let parts = length(&mut bytes)?;
-        let mut parts = take(&mut bytes, parts)?;
-        let image = length(&mut bytes)?;
+pub fn cases(bytes: &[u8]) -> Option<Vec<Case<'_>>> {
+    all(bytes, |bytes| {
+        let mut parts = body(bytes)?;
+        let image = length(bytes)?;
         let image = take(&mut parts, image)?;
-        let room = length(&mut bytes)?;
-        cases.push(Case { image, room, code: number(&mut bytes)?, written: parts });
-    }
-    Some(cases)
+        let room = length(bytes)?;
+        Some(Case { image, room, code: number(bytes)?, written: parts })
+    })
 }
 
 /// For each case of a container whether its answer and its output are still the same.
@@ -38,9 +35,7 @@ impl Case<'_> {
     fn is_answered(&self) -> bool {
         let mut out = vec![BEFORE; self.room];
         let answer = trim_into(self.image, &mut out);
-        let (front, behind) = out.split_at(self.written.len().min(self.room));
         answer == Answer { code: self.code, length: self.written.len() }
-            && front == self.written
-            && behind.iter().all(|&byte| byte == BEFORE)
+            && holds(&out, self.written, BEFORE)
     }
 }

@@ -8,7 +8,7 @@ pub fn header() -> String {
 }
 
 /// Every constant of the header that has a number, with it.
-fn constants() -> Vec<(String, u32)> {
+pub fn constants() -> Vec<(String, u32)> {
     let text = uncommented(&header()).replace([',', '{', '}'], " ");
     let words: Vec<&str> = text.split_whitespace().collect();
     let mut found: Vec<(String, u32)> = words.windows(3).filter_map(constant).collect();

@@ -5,6 +5,7 @@
 mod bodies;
 mod calls;
 mod codes;
+mod definitions;
 mod formulas;
 mod header;
 mod images;

@@ -3,6 +3,7 @@
 pub mod deep;
 mod largest;
 mod message_passing;
+pub mod program_inputs;
 mod two_writes;
 pub mod update;
 

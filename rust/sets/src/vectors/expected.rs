@@ -21,13 +21,13 @@ pub fn line(name: &str, bytes: &[u8]) -> Option<String> {
             bills::cases(bytes)?.iter().map(|case| case.code).collect()
         }
         _ if name.starts_with("replay") => {
-            replays::cases(bytes)?.iter().map(|case| case.code).collect()
+            replays::cases(bytes)?.iter().map(|case| case.told.code).collect()
         }
         _ if name.starts_with("handover") => {
             handovers::cases(bytes)?.iter().map(|case| case.code).collect()
         }
         _ if name.starts_with("across") => {
-            crossings::cases(bytes)?.iter().map(|case| case.code).collect()
+            crossings::cases(bytes)?.iter().map(|case| case.told.code).collect()
         }
         _ => stored_images(bytes)?.iter().map(|case| case.fields[0]).collect(),
     };

@@ -10,6 +10,7 @@ use reference::formula::parse::Counts;
 use reference::formula::Assertion;
 use reference::image::Header;
 use reference::proof::implies;
+use reference::service::SERVICE;
 use reference::stored::service::{Turn, TurnKind, BYTES, NUMBERS};
 
 /// A turn with its label.
@@ -54,6 +55,7 @@ pub fn cases() -> Vec<TurnCase> {
         ends(),
         openings(),
         mixed(),
+        short_services(),
     ]
     .concat()
 }
@@ -86,8 +88,15 @@ fn case(label: impl Into<String>, turn: Turn) -> TurnCase {
 
 fn open(label: &str, rights: &[u8]) -> TurnCase {
     let parts = [rights.to_vec(), vec![], vec![], vec![], vec![], vec![]];
-    let turn =
-        Turn { kind: TurnKind::Open, caller: 0, parts, bytes: 0, numbers: 0, tariff: PRICES };
+    let turn = Turn {
+        kind: TurnKind::Open,
+        service: SERVICE,
+        caller: 0,
+        parts,
+        bytes: 0,
+        numbers: 0,
+        tariff: PRICES,
+    };
     case(format!("open: {label}"), turn)
 }
 
@@ -106,7 +115,7 @@ fn call(kind: TurnKind, caller: usize) -> Turn {
         TurnKind::Trim => [new, none(), none(), none(), none(), none()],
         _ => [old, none(), none(), none(), none(), none()],
     };
-    Turn { kind, caller, parts, bytes: BYTES, numbers: NUMBERS, tariff: PRICES }
+    Turn { kind, service: SERVICE, caller, parts, bytes: BYTES, numbers: NUMBERS, tariff: PRICES }
 }
 
 /// The six calls, served or refused.
@@ -291,6 +300,24 @@ fn mixed() -> Vec<TurnCase> {
             turn.parts[0].pop();
         }
         cases.push(case(format!("mixed {place}: {kind:?} by {caller}"), turn));
+    }
+    cases
+}
+
+/// A service that is too short: it cannot be opened, a caller whose right is not in it has none (36), and one whose number is not in it is
+/// not billed.
+fn short_services() -> Vec<TurnCase> {
+    let mut cases = vec![open("all rights, before shorter ones", &[7; 8])];
+    for lent in [0, 1, 7, 8, 9, 15] {
+        let rights = vec![7, 7, 7];
+        let opening = Turn { service: lent, ..open("", &rights).turn };
+        cases.push(case(format!("open: a service of {lent} numbers"), opening));
+        for caller in [1, 2, 8] {
+            for kind in CALLS {
+                let turn = Turn { service: lent, ..call(kind, caller) };
+                cases.push(case(format!("service of {lent} numbers: {kind:?} by {caller}"), turn));
+            }
+        }
     }
     cases
 }

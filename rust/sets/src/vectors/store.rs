@@ -190,7 +190,7 @@ pub fn service(cases: &[TurnCase]) -> (Vec<u8>, String) {
     for (number, TurnCase { label, turn }) in (1..).zip(cases) {
         let left = turn.take(&mut service);
         push_counted(&mut bytes, &turn.parts.concat());
-        bytes.extend((turn.kind as u16).to_le_bytes());
+        bytes.extend([turn.kind as u8, (SERVICE - turn.service) as u8]);
         push_length(&mut bytes, turn.caller);
         turn.parts[..PARTS - 1].iter().for_each(|part| push_length(&mut bytes, part.len()));
         push_length(&mut bytes, turn.bytes);

@@ -125,7 +125,7 @@ fn turns_at_a_service_have_every_code() {
         let codes = cases.iter().filter(|case| case.turn.kind == kind).map(|case| case.left.code);
         by_code(codes).into_keys().collect::<Vec<u16>>()
     };
-    assert_eq!(of(TurnKind::Open), [0]);
+    assert_eq!(of(TurnKind::Open), [0, 1]);
     assert_eq!(of(TurnKind::Check), [0, 1, 2, 3, 4, 5, 6, 7, 8, 9, 20, 21, 22, 23, 26, 35, 36]);
     assert_eq!(of(TurnKind::Trim), [0, 24, 25, 35, 36]);
     assert_eq!(of(TurnKind::Bill), [0, 1, 30, 31, 35, 36]);
@@ -145,14 +145,19 @@ fn replays_are_read_back() {
     let (bytes, text) = store::replays(&all);
     let cases = stored::replays::cases(&bytes).expect("whole");
     assert_eq!((cases.len(), text.lines().count()), (all.len(), all.len()));
-    let counts = by_code(cases.iter().map(|case| case.code));
+    let counts = by_code(cases.iter().map(|case| case.told.code));
     let codes: Vec<u16> = counts.keys().copied().collect();
     assert!(codes == [0, 1, 24, 27, 28, 29] && counts.values().all(|&n| n >= 12), "{counts:?}");
     assert!(stored::replays::judged(&bytes).expect("whole").iter().all(|&same| same));
     assert!(stored::replays::cases(&bytes[..bytes.len() - 1]).is_none());
     for (case, stored) in all.iter().zip(&cases) {
         let named = named_code(&case.label).filter(|&code| code < 30);
-        assert!(named.is_none_or(|code| code == stored.code), "{}: {}", case.label, stored.code);
+        assert!(
+            named.is_none_or(|code| code == stored.told.code),
+            "{}: {}",
+            case.label,
+            stored.told.code
+        );
         let call = [&case.image, &case.call.trace, &case.call.given];
         assert_eq!(call.map(|part| &part[..]), [stored.image, stored.trace, stored.given]);
     }
@@ -182,7 +187,7 @@ fn crossings_are_read_back() {
     let (bytes, text) = store::crossings(&all);
     let cases = stored::crossings::cases(&bytes).expect("whole");
     assert_eq!((cases.len(), text.lines().count()), (all.len(), all.len()));
-    let counts = by_code(cases.iter().map(|case| case.code));
+    let counts = by_code(cases.iter().map(|case| case.told.code));
     let codes: Vec<u16> = counts.keys().copied().collect();
     assert!(codes == [0, 1, 27, 28, 29, 32, 33, 34], "{counts:?}");
     assert!(counts.values().all(|&n| n >= 4), "{counts:?}");
@@ -190,7 +195,12 @@ fn crossings_are_read_back() {
     assert!(stored::crossings::cases(&bytes[..bytes.len() - 1]).is_none());
     for (case, stored) in all.iter().zip(&cases) {
         let named = named_code(&case.label);
-        assert!(named.is_none_or(|code| code == stored.code), "{}: {}", case.label, stored.code);
+        assert!(
+            named.is_none_or(|code| code == stored.told.code),
+            "{}: {}",
+            case.label,
+            stored.told.code
+        );
         assert_eq!(case.crossing.second, stored.given.traces.second);
     }
 }
@@ -203,8 +213,9 @@ fn runs_handed_over_to_themselves() {
     let cases = stored::crossings::cases(&bytes).expect("whole");
     for name in ["message passing: ", "two writes: "] {
         let named = all.iter().zip(&cases).filter(|(case, _)| case.label.starts_with(name));
-        let ends: Vec<_> =
-            named.map(|(_, stored)| (stored.code, stored.answer, stored.written)).collect();
+        let ends: Vec<_> = named
+            .map(|(_, stored)| (stored.told.code, stored.told.answer, stored.told.written))
+            .collect();
         assert!(ends.len() > 4 && ends.iter().all(|end| *end == ends[0]));
         let plan = if ends[0].1[0] == 7 { message_passing() } else { two_writes() };
         let trace = all.iter().find(|case| case.label.starts_with(name)).expect("there");

@@ -30,6 +30,9 @@ judge-all-spec =
     (λ c κs. search (judge-all-branches, bodies, needs))
     (λ c. search (judge-all-branches, bodies, needs))
     (λ c. search (judge-all-branches, bodies, needs))
+    (λ c κs. search (judge-all-branches, bodies, needs))
+    (λ c. search (judge-all-branches, bodies, needs))
+    (λ c. search (judge-all-branches, bodies, needs))
     (λ c. search (judge-all-branches, bodies, needs))
     (λ c. search (judge-all-branches, bodies, needs))
     (λ c. search (judge-all-branches, bodies, needs))
@@ -41,12 +44,11 @@ judge-all-spec =
       (
         search needs,
         (
-          search needs,
+          search (judge-all-branches, needs),
           running-turn _ _ _ _ _ _ _ (search needs)
               (search (
                 judge-all-branches,
-                c .before .before .before .before .before .before .before .before .before .before .before .before .before
-                    .before .loop,
+                c .before .before .before .before .before .before .before .before .before .before .before .before .before .before .before .before .loop,
               )) (c .before .with-turn .ensures),
         ),
       ),

@@ -1,8 +1,9 @@
-//! Numbers of formulas and lines above 255: both bytes count.
+//! Numbers of formulas and lines above 255, where both bytes count, and the highest that there may be.
 
 use super::{Case, Draft};
 use crate::vectors::tour::place_of;
 use reference::checker::frames::{CLAIM, FORMULA, LINE, OBLIGATIONS, OUTLINE, THREAD};
+use reference::checker::limits::{FORMULAS, LINES};
 use reference::image::written::Record;
 
 /// The number under test; formula 1 and line 1 are others.
@@ -10,16 +11,32 @@ const HIGH: usize = 257;
 
 pub fn cases() -> Vec<Case> {
     let n = Draft::new().line_of_rule(1);
-    vec![
-        moved(LINE, n, 3).case("accepted: left formula 257"),
-        moved(LINE, n, 5).case("accepted: right formula 257"),
-        moved(OUTLINE, 0, 0).case("accepted: outline formula 257"),
-        moved(THREAD, 0, 1 + 5 * 6 + 3).case("accepted: formula 257 of a branch"),
-        moved(THREAD, 1, place_of(9).1 + 3).case("accepted: formula 257 of a pair"),
-        moved(THREAD, 1, place_of(9).1 + 8).case("accepted: formula 257 of a pair's second half"),
+    let places = [
+        ("left formula", LINE, n, 3),
+        ("right formula", LINE, n, 5),
+        ("formula of the outline", OUTLINE, 0, 0),
+        ("formula of a branch", THREAD, 0, 1 + 5 * 6 + 3),
+        ("formula of a pair", THREAD, 1, place_of(9).1 + 3),
+        ("formula of a pair's second half", THREAD, 1, place_of(9).1 + 8),
+    ];
+    let mut cases = vec![
         high_lines().case("accepted: premise 257, obligation with line 258"),
-        high_claim().case("accepted: claim with line 257"),
-    ]
+        high_claim(HIGH).case("accepted: claim with line 257"),
+        high_claim(LINES).case("accepted: claim with line 4,000"),
+        high_claim(LINES)
+            .set_number(CLAIM, 0, 4, LINES as u16 + 1)
+            .case("6: claim with line 4,001"),
+    ];
+    for (what, kind, n, place) in places {
+        for number in [HIGH, FORMULAS] {
+            let label = format!("accepted: {what} has number {number}");
+            cases.push(moved(number, kind, n, place).case(label));
+        }
+        let beyond =
+            moved(FORMULAS, kind, n, place).set_number(kind, n, place, FORMULAS as u16 + 1);
+        cases.push(beyond.case(format!("6: {what} has number 501")));
+    }
+    cases
 }
 
 /// The number at a place of a body.
@@ -36,20 +53,20 @@ fn filled(mut draft: Draft, filler: Record, count: usize) -> Draft {
     draft
 }
 
-/// The tour in which a formula that is named at a place is named by a high number.
-fn moved(kind: u16, n: usize, place: usize) -> Draft {
-    let mut draft = filled(Draft::new(), Record::new(FORMULA, [8]), HIGH);
+/// The tour with so many formulas, in which the one that is named at a place is the last.
+fn moved(count: usize, kind: u16, n: usize, place: usize) -> Draft {
+    let mut draft = filled(Draft::new(), Record::new(FORMULA, [8]), count);
     let own = usize::from(number(&draft, kind, n, place));
     let bytes = draft.body(FORMULA, own - 1).clone();
-    draft.put(FORMULA, HIGH - 1, &bytes).set_number(kind, n, place, HIGH as u16)
+    draft.put(FORMULA, count - 1, &bytes).set_number(kind, n, place, count as u16)
 }
 
-/// The tour in which a claim has line 257.
-fn high_claim() -> Draft {
+/// The tour with so many lines, of which a claim has the last.
+fn high_claim(count: usize) -> Draft {
     let mut draft = Draft::new();
     let line = usize::from(number(&draft, CLAIM, 0, 4));
     let line = Record::new(LINE, draft.body(LINE, line - 1).clone());
-    filled(draft, line, HIGH).set_number(CLAIM, 0, 4, HIGH as u16)
+    filled(draft, line, count).set_number(CLAIM, 0, 4, count as u16)
 }
 
 /// The tour in which the last obligation has line 258, whose second premise is 257.

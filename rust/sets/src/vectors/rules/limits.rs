@@ -4,7 +4,7 @@ use crate::generate::harness;
 use crate::vectors::Case;
 use reference::formula::parse::Counts;
 use reference::formula::{Assertion, Interval, Test, Value};
-use reference::image::Header;
+use reference::image::{Access, Header, Instruction};
 use reference::proof::{implies, included, Lemma};
 use std::rc::Rc;
 
@@ -13,7 +13,37 @@ pub fn cases() -> Vec<Case> {
     cases.extend(rows_split_over_sides());
     cases.extend(leaves());
     cases.extend(leaves_of_premises());
+    cases.extend(last_names());
     cases
+}
+
+/// Rules 26 and 27 at the last word and the last register; each word starts at another value.
+fn last_names() -> Vec<Case> {
+    let mut header = header(8);
+    header.start = (0..8).collect();
+    header.marks[14] = 0;
+    let image = |lemma: &Lemma| {
+        harness::deciding(harness::program(header.clone(), vec![Vec::new()]), lemma, 0).bytes()
+    };
+    let starts = |word: u8, value: u8| {
+        let test = Test::equal(Value::Word(word), Value::Constant(value));
+        let sees = Assertion::sees(1, Interval::both(Interval::One(word), Interval::all(test)));
+        implies(26, Assertion::Start, sees, &[])
+    };
+    let cleared = |register: u8| {
+        let test = Test::equal(Value::Register(register), Value::Constant(0));
+        implies(27, Assertion::Start, Assertion::holds(test), &[])
+    };
+    let set = Instruction::assign(16, Value::Register(15));
+    let load = Access::Load { register: 16, word: 8, acquiring: true }.into();
+    let named = harness::plan(harness::program(header.clone(), vec![vec![set, load]]));
+    vec![
+        Case::new("accepted: register 16 set, and loaded from word 8", named.bytes()),
+        Case::new("accepted: rule 26 at word 8", image(&starts(8, 7))),
+        Case::new("22: rule 26 at word 8, the value of word 7", image(&starts(8, 6))),
+        Case::new("accepted: rule 27 at register 16", image(&cleared(16))),
+        Case::new("22: rule 27 at register 15, which starts anywhere", image(&cleared(15))),
+    ]
 }
 
 /// One thread, one point, every name.

@@ -1,12 +1,13 @@
 //! Premises: too few, too many, exchanged, unjustified, of another form, for
 //! another instruction, saying something else.
 
-use super::frame::{image_with_twin, operations, rich_instance};
+use super::frame::{header, image, image_with_twin, operations, rich_instance, PLACE};
+use crate::generate::harness;
 use crate::vectors::Case;
 use reference::checker::rules::rules;
-use reference::formula::{Assertion, Interval};
-use reference::image::Statement;
-use reference::proof::{consequence, implies, included, triple, Lemma, Proof};
+use reference::formula::{Assertion, Interval, Value};
+use reference::image::{Access, Instruction, Statement};
+use reference::proof::{choice, consequence, implies, included, pair, triple, Lemma, Proof};
 use std::rc::Rc;
 
 pub fn cases() -> Vec<Case> {
@@ -23,7 +24,53 @@ pub fn cases() -> Vec<Case> {
             cases.push(Case::new(label, image_with_twin(operation, &changed)));
         }
     }
+    cases.extend(of_another_thread());
+    cases.extend(triples_for_implications());
     cases
+}
+
+/// The instruction at point 0 of a thread keeps "true".
+fn kept_by(thread: u8) -> Lemma {
+    triple(1, (thread, PLACE.1), Assertion::truth(), Assertion::truth(), &[])
+}
+
+/// Two threads with the same instruction at point 0: a premise is the other thread's triple, with the same formulas.
+fn of_another_thread() -> Vec<Case> {
+    let value = Value::Constant(5).into();
+    let store: Instruction = Access::Store { word: 1, value, releasing: true }.into();
+    let program = || harness::program(header(), vec![vec![store.clone()], vec![store.clone()]]);
+    let own = kept_by(1);
+    let lines = [
+        (14, pair(&own, &own), vec![0, 1]),
+        (15, choice(&own, &own), vec![0, 1]),
+        (16, consequence(Assertion::truth(), &own, Assertion::truth()), vec![1]),
+    ];
+    let mut cases = Vec::new();
+    for (rule, lemma, triples) in lines {
+        let image = |lemma: &Lemma| harness::deciding(program(), lemma, 0).bytes();
+        let label = format!("accepted: rule {rule}, the premises are the thread's own");
+        cases.push(Case::new(label, image(&lemma)));
+        for index in triples {
+            let mut premises = lemma.premises.clone();
+            premises[index] = kept_by(2);
+            let label = format!("22: rule {rule}, premise {} is another thread's", index + 1);
+            cases.push(Case::new(label, image(&with(&lemma, premises))));
+        }
+    }
+    cases
+}
+
+/// Rule 16 with a justified triple that says what the implication in its place should.
+fn triples_for_implications() -> Vec<Case> {
+    let middle = kept_by(1);
+    let lemma = consequence(Assertion::truth(), &middle, Assertion::truth());
+    let instead = |index: usize| {
+        let mut premises = lemma.premises.clone();
+        premises[index] = middle.clone();
+        let label = format!("22: rule 16, premise {} is a triple with its formulas", index + 1);
+        Case::new(label, image(3, &with(&lemma, premises)))
+    };
+    vec![instead(0), instead(2)]
 }
 
 /// The line with other premises.
@@ -84,7 +131,7 @@ fn replaced(lemma: &Lemma, index: usize) -> Vec<Variant> {
         let moved = Proof { statement: elsewhere, ..Proof::clone(premise) };
         variants.push(("is for an equal instruction at point 1", Rc::new(moved)));
     } else {
-        let own = triple(1, super::frame::PLACE, Assertion::truth(), Assertion::truth(), &[]);
+        let own = triple(1, PLACE, Assertion::truth(), Assertion::truth(), &[]);
         variants.push(("is a triple", own));
     }
     variants.push(("says something else on the left", restated(premise, true)));
