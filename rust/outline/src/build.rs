@@ -1,12 +1,18 @@
 //! A source to an image: by search, or by a certificate written out.
 
-use crate::search::budget::{Budget, TRIES};
+use crate::infer::{Before, Wanting};
+use crate::search::budget::{Budget, BEYOND, SHARE, TRIES};
+use crate::search::certificate::Certificate;
 use crate::search::kept::Kept;
 use crate::search::prover::{At, Prover};
+use crate::search::shorten::Shortened;
+use crate::search::tried::Lacking;
 use crate::text::lex::Mistake;
 use crate::text::source::{Hint, Source};
 use reference::assemble::Assembly;
+use reference::checker::limits::FORMULAS;
 use reference::checker::obligations::{duties, Duty};
+use reference::checker::rules::table::Leaves;
 use reference::formula::nesting::Nesting;
 use reference::image::written::Written;
 use reference::image::{Claim, Instruction, Meeting, Program, Statement};
@@ -38,6 +44,20 @@ impl Goal {
             Goal::Claim(Meeting { thread, point, other_thread, other_point }) => {
                 place == (thread, point) || place == (other_thread, other_point)
             }
+        }
+    }
+
+    /// Of a goal about an instruction: its place, and the points whose assertions are known before it.
+    fn before(&self) -> Option<(At, Vec<(u8, u8)>)> {
+        match *self {
+            Goal::Duty(Duty::Next { thread, point }) => {
+                Some((At { thread, point }, vec![(thread, point)]))
+            }
+            Goal::Duty(Duty::Kept { thread, point, actor, action }) => {
+                let at = At { thread: actor, point: action };
+                Some((at, vec![(thread, point), (actor, action)]))
+            }
+            _ => None,
         }
     }
 
@@ -122,41 +142,147 @@ fn search(source: &Source, kept: Kept, tries: u64, watch: Watch) -> Built {
     let mut prover = Prover::new(&program, source.names.clone());
     prover.budget = Budget::of(tries);
     let goals = Goal::all(source);
+    let mut beyond = BEYOND;
     let hints = source.hints.iter().take_while(|_| watch(0, goals.len()));
-    let taken = hints.map(|hint| take_hint(&mut prover, hint));
+    let taken = hints.map(|hint| take_hint(&mut prover, hint, &mut beyond));
     let failed: Vec<Mistake> = taken.filter_map(Result::err).collect();
-    let (mut found, mut open, mut untried) = (Vec::new(), Vec::new(), 0);
-    for (done, &goal) in goals.iter().enumerate() {
-        if !watch(done, goals.len()) {
-            untried += 1;
-            found.push((goal, None));
-            continue;
-        }
-        prover.tried.clear();
-        prover.budget.renew();
-        let wanted = goal.wanted(&program);
-        let line = prove(&mut prover, &wanted);
-        if line.is_none() {
-            open.push(left_open(&mut prover, goal, wanted));
-        }
-        found.push((goal, line));
-    }
+    let mut sought = Sought::of(&goals, &program);
+    let untried = sought.in_turn(&mut prover, watch);
+    sought.again(&mut prover, beyond, watch);
     let (tries, most_tries) = prover.budget.made();
-    let image = assemble(&program, &prover, kept, &found);
+    let open = sought.left_open(&mut prover);
+    let found: Vec<(Goal, Option<usize>)> =
+        sought.goals.iter().map(|one| (one.goal, one.line)).collect();
+    let mut image = assemble(&program, &prover.lines, kept, &found);
+    if image.formulas.len() > FORMULAS {
+        image = shorter(&program, &prover.lines, &found);
+    }
     Built { image, open, failed, untried, tries, most_tries }
 }
 
-/// What is told of a goal for which no line was found.
-fn left_open(prover: &mut Prover, goal: Goal, wanted: Statement) -> Open {
-    let given_up = prover.budget.is_spent().then(|| prover.budget.most());
-    if let Some(most) = given_up {
-        prover.tried.push(format!("given up     after {most} tries"));
+/// A goal, and what the search has found for it so far.
+struct One {
+    goal: Goal,
+    wanted: Statement,
+    line: Option<usize>,
+    tried: bool,
+    /// The tries after which it was given up, if it was.
+    given_up: Option<u64>,
+    told: (Vec<String>, Option<Lacking>),
+}
+
+/// All goals of an outline.
+struct Sought<'p> {
+    program: &'p Program,
+    goals: Vec<One>,
+}
+
+impl<'p> Sought<'p> {
+    fn of(goals: &[Goal], program: &'p Program) -> Sought<'p> {
+        let one = |goal: &Goal| One {
+            goal: *goal,
+            wanted: goal.wanted(program),
+            line: None,
+            tried: false,
+            given_up: None,
+            told: Default::default(),
+        };
+        Sought { program, goals: goals.iter().map(one).collect() }
     }
-    if prover.tried.is_empty() {
-        let text = "tried        lines that pass 255 bytes, nesting 16 or 10 leaves";
-        prover.tried.push(text.into());
+
+    /// Each goal within its share, so that none keeps the others from their turn; how many were not tried.
+    fn in_turn(&mut self, prover: &mut Prover, watch: Watch) -> usize {
+        let all = self.goals.len();
+        for (done, one) in self.goals.iter_mut().enumerate() {
+            if watch(done, all) {
+                one.seek(prover, SHARE);
+            }
+        }
+        self.goals.iter().filter(|one| !one.tried).count()
     }
-    Open { goal, wanted, tried: prover.tried.clone(), given_up }
+
+    /// Those that were given up, the likeliest first, with what is left for all of them.
+    fn again(&mut self, prover: &mut Prover, mut beyond: u64, watch: Watch) {
+        let all = self.goals.len();
+        let mut open: Vec<&mut One> =
+            self.goals.iter_mut().filter(|one| one.given_up.is_some()).collect();
+        open.sort_by_key(|one| unlikely(prover, &one.wanted));
+        let closed = all - open.len();
+        for (done, one) in open.into_iter().enumerate() {
+            if beyond == 0 || !watch(closed + done, all) {
+                return;
+            }
+            let before = prover.budget.made().0;
+            one.seek(prover, beyond);
+            beyond = beyond.saturating_sub(prover.budget.made().0 - before);
+        }
+    }
+
+    /// What is told of each goal without a line.
+    fn left_open(&self, prover: &mut Prover) -> Vec<Open> {
+        let tried = |one: &&One| one.line.is_none() && one.tried;
+        let mut wanting = None;
+        let mut open = Vec::new();
+        for one in self.goals.iter().filter(tried) {
+            let tried = one.words(prover, &mut wanting, self.program);
+            let (goal, wanted, given_up) = (one.goal, one.wanted.clone(), one.given_up);
+            open.push(Open { goal, wanted, tried, given_up });
+        }
+        open
+    }
+}
+
+/// The lower, the likelier is it to be found: named steps stand for its instruction, and it has few leaves.
+fn unlikely(prover: &Prover, wanted: &Statement) -> (bool, usize) {
+    let named = match *wanted {
+        Statement::Triple { thread, point, .. } => {
+            !prover.steps_at(At { thread, point }).is_empty()
+        }
+        _ => false,
+    };
+    let Leaves(leaves) = Leaves::of(wanted.assertions().0);
+    (!named, leaves.len())
+}
+
+impl One {
+    /// Looks for its line within so many tries.
+    fn seek(&mut self, prover: &mut Prover, tries: u64) {
+        prover.tried.clear();
+        prover.lacking = None;
+        prover.budget.renew_within(tries);
+        self.line = prove(prover, &self.wanted);
+        self.tried = true;
+        let spent = self.line.is_none() && prover.budget.is_spent();
+        self.given_up = spent.then(|| prover.budget.allowed());
+        self.told = (std::mem::take(&mut prover.tried), prover.lacking.take());
+    }
+
+    /// What was tried, and what it would need.
+    fn words<'p>(
+        &self,
+        prover: &mut Prover,
+        wanting: &mut Option<Wanting<'p>>,
+        program: &'p Program,
+    ) -> Vec<String> {
+        let (mut lines, lacking) = self.told.clone();
+        if let (Some(lacking), Some((at, places))) = (lacking, self.goal.before()) {
+            lines.push(format!("open case    {}", prover.known_words(&lacking.case)));
+            prover.budget.renew_within(SHARE);
+            let parts = prover.not_reached(&lacking);
+            let wanting = wanting.get_or_insert_with(|| Wanting::of(program, prover.names.clone()));
+            let before = Before { at, places: &places, case: &lacking.case };
+            lines.extend(wanting.told(before, &parts));
+        }
+        if let Some(most) = self.given_up {
+            lines.push(format!(
+                "given up     after {most} tries: whether rules lead there is not known"
+            ));
+        }
+        if lines.is_empty() {
+            lines.push("tried        lines that pass 255 bytes, nesting 16 or 10 leaves".into());
+        }
+        lines
+    }
 }
 
 /// A line for one obligation or claim.
@@ -175,7 +301,7 @@ pub fn prove(prover: &mut Prover, wanted: &Statement) -> Option<usize> {
 }
 
 /// Proves what the writer named, by the rule named or by search, and keeps it in mind.
-fn take_hint(prover: &mut Prover, hint: &Hint) -> Result<(), Mistake> {
+fn take_hint(prover: &mut Prover, hint: &Hint, beyond: &mut u64) -> Result<(), Mistake> {
     let fail = |text: String| Err(Mistake { line: hint.line, text });
     if let Statement::Triple { thread, point, .. } = hint.statement {
         if prover.program.instruction(thread, point).is_none_or(Instruction::is_branch) {
@@ -183,11 +309,14 @@ fn take_hint(prover: &mut Prover, hint: &Hint) -> Result<(), Mistake> {
         }
     }
     prover.tried.clear();
-    prover.budget.renew();
+    prover.lacking = None;
+    let before = prover.budget.made().0;
+    prover.budget.renew_within(SHARE.max(*beyond));
     let found = prover.hinted(hint);
     let Some(line) = found else {
+        *beyond = beyond.saturating_sub(prover.budget.made().0 - before);
         let by = hint.rule.map(|r| format!(" by rule {r}")).unwrap_or_default();
-        let tried = prover.tried.iter().map(|t| format!("\n  {t}")).collect::<String>();
+        let tried = hint_words(prover).iter().map(|t| format!("\n  {t}")).collect::<String>();
         return fail(format!("this step of the proof was not found{by}{tried}"));
     };
     prover.forget_failures(&hint.statement);
@@ -199,19 +328,44 @@ fn take_hint(prover: &mut Prover, hint: &Hint) -> Result<(), Mistake> {
     Ok(())
 }
 
+/// What was tried for a named step.
+fn hint_words(prover: &mut Prover) -> Vec<String> {
+    let mut lines = std::mem::take(&mut prover.tried);
+    if prover.budget.is_spent() {
+        lines.push(format!("given up     after {} tries", prover.budget.allowed()));
+    } else if let Some(lacking) = prover.lacking.take() {
+        lines.push(format!("open case    {}", prover.known_words(&lacking.case)));
+        let parts = prover.not_reached(&lacking).into_iter();
+        lines.extend(parts.map(|part| format!("not reached  {}", prover.names.assertion(&part))));
+    }
+    lines
+}
+
+/// The image with as few formulas as leaving out lines gives.
+fn shorter(program: &Program, found: &Certificate, goals: &[(Goal, Option<usize>)]) -> Written {
+    let roots: Vec<usize> = goals.iter().filter_map(|(_, line)| *line).collect();
+    let mut shortened = Shortened::of(program, found, &roots);
+    shortened.run();
+    let (lines, roots) = shortened.lines();
+    let mut roots = roots.into_iter();
+    let goals: Vec<(Goal, Option<usize>)> =
+        goals.iter().map(|(goal, line)| (*goal, line.and_then(|_| roots.next()))).collect();
+    assemble(program, &lines, Kept::Needed, &goals)
+}
+
 /// Numbers formulas and lines.
 fn assemble(
     program: &Program,
-    prover: &Prover,
+    lines: &Certificate,
     kept: Kept,
     found: &[(Goal, Option<usize>)],
 ) -> Written {
     let mut image = Assembly::of(program);
     let roots: Vec<usize> = found.iter().filter_map(|(_, line)| *line).collect();
-    let kept = kept.places(&prover.lines, program, &roots);
+    let kept = kept.places(lines, program, &roots);
     let place = |at: usize| kept.binary_search(&at).map_or(0, |i| i as u16 + 1);
     for at in &kept {
-        let entry = &prover.lines.entries[*at];
+        let entry = &lines.entries[*at];
         let premises = entry.premises.iter().map(|p| place(*p)).collect();
         image.line(entry.rule, &entry.statement, premises);
     }

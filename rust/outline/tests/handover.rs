@@ -82,10 +82,10 @@ fn points_are_proposed() {
          \x20 writer 0 (line 13) -> writer 0 (line 14)   line 131, the same assertion\n\
          \x20 writer 1 (line 15) -> writer 1 (line 16)   line 40, the same assertion\n\
          \x20 writer 2 (line 17) -> writer 2 (line 18)   line 44, the same assertion\n\
-         \x20 reader 0 (line 23) -> reader 1 (line 26)   line 164\n\
-         \x20 reader 1 (line 25) -> reader 1 (line 26)   line 165\n\
-         \x20 reader 2 (line 27) -> reader 2 (line 28)   line 170\n\
-         \x20 reader 3 (line 29) -> reader 3 (line 30)   line 171\n\
+         \x20 reader 0 (poll, line 23) -> reader 1 (poll, line 26)   line 164\n\
+         \x20 reader 1 (looked, line 25) -> reader 1 (poll, line 26)   line 165\n\
+         \x20 reader 2 (up, line 27) -> reader 2 (again, line 28)   line 170\n\
+         \x20 reader 3 (done, line 29) -> reader 3 (up, line 30)   line 171\n\
          11 lines for the table alone: `outline trim` would drop them\n\
          PERMITTED: 7 old points with a line   ({})\n",
         permit(&out)
@@ -101,7 +101,10 @@ fn chosen_points() {
     let files = Files::new("handover-chosen");
     let (status, out, _) = files.seek(&CHOSEN);
     assert_eq!(status, 0, "{out}");
-    for said in ["reader 1 (line 25) -> reader 0 (line 24)", "reader 2 (line 27) -> reader 3 ("] {
+    for said in [
+        "reader 1 (looked, line 25) -> reader 0 (looked, line 24)",
+        "reader 2 (up, line 27) -> reader 3 (",
+    ] {
         assert!(out.contains(said), "{out}");
     }
     let (old, new, table) = (files.old_image(), read(&files.image), read(&files.table));
@@ -123,7 +126,8 @@ const WRONG: &str = "reader.looked=up";
 fn a_wrong_handover_is_refused() {
     let files = Files::new("handover-wrong");
     let (status, out, err) = files.seek(&[WRONG]);
-    let want = "open: reader 1 (line 25): its assertion does not give that of new point 3
+    let want =
+        "open: reader 1 (looked, line 25): its assertion does not give that of new point 3 (up)
   old          Coming and (a = 0 or reader sees [data = 1])
   new 3        reader sees [data != 0]
   open case    reader sees [flag = 0] ; [unsync flag] ; [data = 1], a = 0
@@ -192,7 +196,7 @@ fn no_line_permits_it() {
     }
     std::fs::write(&files.table, &table).expect("written");
     let (status, out, err) = files.judge(&update("old"), &files.image);
-    let want = "REFUSED: reader 1 (line 25): line 171 is no justified implication from its assertion to that of \
+    let want = "REFUSED: reader 1 (looked, line 25): line 171 is no justified implication from its assertion to that of \
                 new point 3 (code 34)   (";
     assert!((status, out.as_str()) == (1, "") && err.starts_with(want), "{err}");
 }
@@ -212,7 +216,7 @@ fn tables_out_of_range() {
     assert_eq!(said(&table[..20]), short);
     let mut other = table.clone();
     other[19..].copy_from_slice(&[0, 0]);
-    let line = "REFUSED: reader 3 (line 29): there is no new point 3, or no line 0 (code 33)";
+    let line = "REFUSED: reader 3 (done, line 29): there is no new point 3, or no line 0 (code 33)";
     assert_eq!(said(&other), line);
     other = table.clone();
     other[0] = 3;
@@ -253,7 +257,7 @@ fn trimmed_too_late() {
     let again = files.folder.file("again.image");
     let args = ["handover", &update("old"), &small, "-o", &again, "--table", &files.table];
     let (status, out, _) = run(&args);
-    assert!(status == 0 && out.contains("reader 0 (line 23) -> t2 1   line "), "{out}");
+    assert!(status == 0 && out.contains("reader 0 (poll, line 23) -> t2 1   line "), "{out}");
     assert_eq!(files.judge(&update("old"), &again).0, 0);
 }
 

@@ -10,7 +10,7 @@ use reference::checker::check;
 use std::path::PathBuf;
 
 /// Programs of the gallery whose outlines are found.
-const FOUND: [&str; 20] = [
+const FOUND: [&str; 21] = [
     "boot",
     "coherence",
     "exchange-lock",
@@ -23,6 +23,7 @@ const FOUND: [&str; 20] = [
     "peterson",
     "peterson-claim",
     "polling",
+    "rcu",
     "rrc",
     "rrc2",
     "store-buffering",
@@ -98,6 +99,41 @@ fn comments_labels_and_the_wish_stay_as_they_are_written() {
         assert!(outline.contains(kept), "{kept:?} is lost:\n{outline}");
     }
     assert!(outline.contains("{ a = 1 => b = 1 }   # what is wished\n"), "{outline}");
+}
+
+#[test]
+fn a_word_of_two_values_is_said_to_have_one() {
+    let outline = found("passing", PASSING);
+    assert!(outline.contains("reader sees [flag = 0]") && !outline.contains("!= 1]"), "{outline}");
+}
+
+#[test]
+fn the_best_outline_until_an_interrupt_can_be_written() {
+    let text = question("peterson-data");
+    let source = asked(&text);
+    let answer = infer(&source, &Wish::of(&source, false), TRIES, &|done, _| done < 600_000);
+    let Answer::NotFound(end) = answer else { panic!("it is not found so fast") };
+    assert!(end.stopped && end.tried.tries < TRIES, "{}", end.tried.tries);
+    let (best, open) = end.best.expect("some outline was put together");
+    assert!(!open.is_empty());
+    let outline = asked(&written(&text, &source, &best).expect("written"));
+    assert!(!outline.has_holes() && outline.threads == source.threads);
+}
+
+#[test]
+fn progress_is_told_in_tries_and_never_goes_back() {
+    let source = asked(PASSING);
+    let told = std::cell::RefCell::new(Vec::new());
+    infer(&source, &Wish::of(&source, false), TRIES, &|done, all| {
+        told.borrow_mut().push((done, all));
+        true
+    });
+    let told = told.into_inner();
+    assert!(
+        told.len() > 1 && told.iter().all(|(done, all)| done <= all && *all == TRIES),
+        "{told:?}"
+    );
+    assert!(told.windows(2).all(|two| two[0].0 <= two[1].0), "{told:?}");
 }
 
 #[test]

@@ -267,11 +267,13 @@ fn an_open_obligation_names_place_case_and_need() {
     assert!(all[0].contains("missing      writer sees [x = 1]"), "{}", all[0]);
     let place = "class 4, thread 2 (reader) point 0 (line 8): not kept by thread 1 (writer) point 0 (line 4)";
     assert!(all[1].contains(place), "{}", all[1]);
-    // Rule 9 would ask for `reader sees [1 = 0]`, which cannot be: so it is not asked for.
-    assert!(all[1].ends_with("    no rule leads there\n"), "{}", all[1]);
+    // Rule 9 would ask for `reader sees [1 = 0]`, which cannot be: so it is not asked for. The writer does not see x = 1
+    // at the start, so that no run comes to the case.
+    let end = "    would do   to exclude the case: it is in none of all 2 states\n";
+    assert!(all[1].ends_with(end) && !all[1].contains("would need"), "{}", all[1]);
 }
 
-/// Rule 9 asks for `a sees [1 = 1]` too, which is plain, and rule 7 for more than rule 6.
+/// Rule 9 asks for `a sees [x = 1]`, which no run has there, and rule 7 for more than rule 6.
 #[test]
 fn only_what_is_lacking_is_asked_for() {
     let text = "word x = 0\nthread a registers r { r = 0 } x := 1 { r = 0 and a sees [x = 1] }";
@@ -281,8 +283,8 @@ fn only_what_is_lacking_is_asked_for() {
     let want = [
         "open case    r = 0",
         "not reached  a sees [x = 1]",
-        "  would need a sees [x = 1]",
-        "  or         a sees one x",
+        "  would need a sees one x",
+        "  or         a sees [cov x] ; one x",
     ];
     assert_eq!(open[0].tried, want);
 }
@@ -302,8 +304,8 @@ fn an_open_pair_is_told_by_its_first_half() {
   first half   to 2 = 2 and a sees [x = 1]
   open case    a sees [x = 0]
   not reached  a sees [x = 1]
-    would need a sees [x = 1]
-    or         a sees one x
+    would need a sees one x
+    or         a sees [cov x] ; one x
 ";
     assert_eq!(told, want);
 }

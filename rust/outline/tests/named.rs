@@ -141,7 +141,7 @@ fn the_search_ends_after_so_many_tries() {
     let cut = build_within(&source, 50).expect("no hints");
     assert!(!cut.open.is_empty() && cut.most_tries <= 50);
     let told: Vec<&String> = cut.open.iter().flat_map(|o| &o.tried).collect();
-    assert!(told.iter().any(|t| *t == "given up     after 50 tries"), "{told:?}");
+    assert!(told.iter().any(|t| t.starts_with("given up     after 50 tries")), "{told:?}");
     let again = build_within(&source, 50).expect("no hints");
     assert_eq!((cut.image, cut.tries), (again.image, again.tries));
 }

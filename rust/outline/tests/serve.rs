@@ -145,6 +145,20 @@ fn traces_and_handovers() {
     assert_eq!(out.lines().nth(6), Some(last));
 }
 
+/// Where a source has labels, points are told by them.
+#[test]
+fn points_are_told_by_their_labels() {
+    let folder = Folder::new("labels");
+    let text = std::fs::read_to_string(example("update/old")).expect("an outline");
+    folder.with("old.outline", &text);
+    folder.with("one.trace", "reader 0\n");
+    let calls = folder.with("all.calls", "caller 1 may replay\n1 replay old.outline one.trace\n");
+    let (status, out, err) = run(&["serve", &calls]);
+    assert_eq!(status, 0, "{out}{err}");
+    let want = "1 replay old.outline: 1 step (code 0); writer at point 0, reader at looked, a = 0, b = 0\n";
+    assert!(out.starts_with(want), "{out}");
+}
+
 /// Words of a run that are not what the machine does, under the old code or behind a handover, are a mistake of the line.
 #[test]
 fn traces_in_words_are_compared() {

@@ -75,14 +75,14 @@ fn every_line_that_was_found() {
     let folder = Folder::new("all-lines");
     let (all, left) = (folder.file("all.image"), folder.file("left.image"));
     let (status, out, _) = run(&["build", &example("message-passing"), "-o", &all, "--all-lines"]);
-    let want = "all.image: 8324 bytes, 132 formulas, 384 lines, 18 obligations, 0 open\n";
+    let want = "all.image: 8374 bytes, 133 formulas, 386 lines, 18 obligations, 0 open\n";
     assert!(status == 0 && out.contains(want), "{out}");
     let (status, out, _) = run(&["trim", &all, "-o", &left]);
     assert!(
         status == 0 && out.contains("left.image: 2814 bytes, 59 formulas, 101 lines\n"),
         "{out}"
     );
-    assert!(out.contains("\ndropped: 5510 bytes, 73 formulas, 283 lines   ("), "{out}");
+    assert!(out.contains("\ndropped: 5560 bytes, 74 formulas, 285 lines   ("), "{out}");
     let verdicts = [all, left].map(|file| check(&std::fs::read(file).expect("written")));
     assert_eq!(verdicts[0], verdicts[1]);
 }

@@ -7,7 +7,7 @@ use crate::command::judge::{judge, JUDGE};
 use crate::command::options::Options;
 use crate::command::progress::Progress;
 use crate::command::spread::spread;
-use crate::command::{print, words, Done, Status};
+use crate::command::{interrupt, print, words, Done, Status};
 use reference::checker::Verdict;
 
 /// One file judged: the verdict with its words, or why there is none.
@@ -19,6 +19,7 @@ pub fn run(words: &[&str]) -> Done {
     if files.is_empty() {
         return Err("no file to judge; see outline --help".into());
     }
+    interrupt::watch();
     let judged = judge_all(&files);
     let mut out = String::new();
     for (Gathered { file, .. }, judged) in files.iter().zip(&judged) {
@@ -47,6 +48,9 @@ fn judge_all(files: &[Gathered]) -> Vec<Judged> {
 fn judge_one(gathered: &Gathered) -> Judged {
     if let Some(fault) = &gathered.fault {
         return Err(fault.clone());
+    }
+    if interrupt::is_noted() {
+        return Err("interrupted before it was looked at".into());
     }
     let judged = std::panic::catch_unwind(|| {
         let subject = Subject::of(&gathered.file)?;

@@ -118,12 +118,23 @@ impl Code<'_> {
         self.names.assertion(self.program().assertion(thread, point))
     }
 
-    /// A point in words, with its source line where there is a source.
+    /// A point in words, with its label and its source line where there is a source.
     fn place(&self, thread: u8, point: u8) -> String {
         let source = self.side.subject.source();
         let line = source.map(|s| s.points[usize::from(thread) - 1][usize::from(point)].line);
-        let line = line.map(|line| format!(" (line {line})")).unwrap_or_default();
-        format!("{} {point}{line}", self.names.thread(thread))
+        let line = line.map(|line| format!("line {line}"));
+        let label = source.and_then(|s| s.names.label(thread, point)).map(String::from);
+        let known: Vec<String> = label.into_iter().chain(line).collect();
+        let known =
+            if known.is_empty() { String::new() } else { format!(" ({})", known.join(", ")) };
+        format!("{} {point}{known}", self.names.thread(thread))
+    }
+
+    /// A point of a thread that was named already: its number, and its label where it has one.
+    fn number(&self, thread: u8, point: u8) -> String {
+        let source = self.side.subject.source();
+        let label = source.and_then(|s| s.names.label(thread, point));
+        label.map_or(point.to_string(), |label| format!("{point} ({label})"))
     }
 }
 
@@ -230,7 +241,7 @@ fn open_ones(old: &Code, new: &Code, found: &Found) -> Vec<String> {
     for Open { from: (thread, from), tried, told, given_up } in &found.open {
         let to = tried[0];
         let what = match tried.len() {
-            1 => format!("does not give that of new point {to}"),
+            1 => format!("does not give that of new point {}", new.number(*thread, to)),
             n => format!("gives that of none of the {n} new points"),
         };
         said.push(format!("open: {}: its assertion {what}", old.place(*thread, *from)));
@@ -328,7 +339,8 @@ fn why(old: &Code, new: &Code, table: &[u8], code: u16) -> String {
     match code {
         OUT_OF_RANGE => format!("{place}: there is no new point {to}, or no line {line}"),
         _ => format!(
-            "{place}: line {line} is no justified implication from its assertion to that of new point {to}"
+            "{place}: line {line} is no justified implication from its assertion to that of new point {}",
+            new.number(*thread, *to)
         ),
     }
 }

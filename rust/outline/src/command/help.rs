@@ -123,7 +123,7 @@ const COMMANDS: [Command; 14] = [
 
 const OPTIONS: [(&str, &str); 20] = [
     ("--image", "writes the image that the page is about, or of what was inferred, too"),
-    ("--tries", "N, a bound: ends the inference after so many tries; 2000000"),
+    ("--tries", "N, a bound: ends the inference after so many tries; 1200000"),
     ("--date", "the page's date; else that of SOURCE_DATE_EPOCH, else the clock's, in UTC"),
     ("--partial", "writes an image with open obligations and claims too"),
     ("--all", "tells all open obligations and claims in full"),

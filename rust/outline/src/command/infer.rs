@@ -52,6 +52,17 @@ pub fn run(args: &[&str]) -> Done {
             }
             accepted(&options, target.name(), &found)
         }
+        Answer::NotFound(end) if end.stopped => {
+            let mut told = not_found(&end, most);
+            told.lines.push(match &end.best {
+                Some((best, _)) => {
+                    target.write(written(&text, &source, best)?.as_bytes())?;
+                    format!("{}: the best outline until then, which is not accepted", target.name())
+                }
+                None => "no outline was put together until then, and none is written".into(),
+            });
+            told
+        }
         other => not_accepted(&source, &other, most),
     };
     tell(&options, file, &told)?;

@@ -209,8 +209,13 @@ fn replayed(service: &[u32], caller: usize, material: &Material, new: &[u8]) -> 
         }
     };
     let names = names(&material.subject);
-    let points = names.threads.iter().zip(&answer[1..]);
-    let points = points.map(|(name, point)| format!("{name} at point {point}"));
+    // Across a handover the points are those of the new code, and the names those of the old.
+    let at = |(thread, name, point): (u8, &String, u8)| match material.traces.len() {
+        1 => names.at(thread, point),
+        _ => format!("{name} at point {point}"),
+    };
+    let points = (1..).zip(&names.threads).zip(&answer[1..]);
+    let points = points.map(|((thread, name), point)| at((thread, name, *point as u8)));
     let registers = names.registers.iter().zip(&answer[5..]);
     let registers = registers.map(|(name, value)| format!("{name} = {value}"));
     let state: Vec<String> = points.chain(registers).collect();

@@ -1,7 +1,7 @@
 //! From clauses at points to assertions: in several forms, of which the search takes the first that it can certify.
 
 use crate::build::{prove, Goal};
-use crate::infer::clauses::{clauses, Clause};
+use crate::infer::clauses::{clauses, Clause, Literal};
 use crate::infer::ground::Ground;
 use crate::infer::have::Key;
 use crate::infer::packed::{merged, packed, Level};
@@ -17,7 +17,7 @@ use std::collections::{BTreeMap, BTreeSet, HashMap};
 pub type Parts = BTreeMap<Place, Vec<A>>;
 
 /// Tries for one obligation of an assembled outline.
-const TRIES: u64 = 50_000;
+const TRIES: u64 = 10_000;
 
 /// How the clauses of a point are written.
 #[derive(Debug, Clone, Copy, PartialEq, Eq)]
@@ -29,9 +29,11 @@ pub enum Form {
     Factored(Level),
     /// Views with the tests that go with them, but for views that others stand beside.
     Merged,
+    /// A literal that stands in several clauses once, with the rest of these beside it.
+    Shared(Level),
 }
 
-pub const FORMS: [Form; 9] = [
+pub const FORMS: [Form; 12] = [
     Form::Clauses,
     Form::Packed(Level::Views),
     Form::Merged,
@@ -41,14 +43,22 @@ pub const FORMS: [Form; 9] = [
     Form::Modes(Some(Level::Views)),
     Form::Modes(Some(Level::Tests)),
     Form::Factored(Level::Tests),
+    Form::Shared(Level::Views),
+    Form::Shared(Level::Tests),
+    Form::Shared(Level::Guarded),
 ];
 
 /// What is asked for at points, and stays as it is written.
 pub type Given = BTreeMap<Place, A>;
 
 impl Ground<'_> {
-    /// The conjuncts of each point in a form: what is given first, letter by letter.
-    pub fn parts(&mut self, keys: &BTreeSet<Key>, given: &Given, form: Form) -> Parts {
+    /// The conjuncts of each point in its form: what is given first, letter by letter.
+    pub fn parts(
+        &mut self,
+        keys: &BTreeSet<Key>,
+        given: &Given,
+        form: &dyn Fn(Place) -> Form,
+    ) -> Parts {
         let mut found: BTreeMap<Place, Vec<Clause>> = BTreeMap::new();
         for (place, clause) in keys {
             found.entry(*place).or_default().push(clause.clone());
@@ -61,7 +71,7 @@ impl Ground<'_> {
                 let known = self.numbered(&known);
                 let mut more = found.remove(&place).unwrap_or_default();
                 more.retain(|clause| !known.contains(clause));
-                own.extend(self.in_form(place, &more, form));
+                own.extend(self.in_form(place, &more, form(place)));
             }
             parts.insert(place, own);
         }
@@ -84,6 +94,7 @@ impl Ground<'_> {
                 out.extend(self.in_form(place, &rest, Form::Modes(Some(level))));
                 out
             }
+            Form::Shared(level) => self.shared(place, clauses, level),
             Form::Modes(level) => {
                 let modes = self.modes(place, clauses);
                 let written = |mode: &Vec<A>| match level {
@@ -95,6 +106,29 @@ impl Ground<'_> {
                 fold_right(&whole, either).into_iter().collect()
             }
         }
+    }
+}
+
+impl Ground<'_> {
+    /// The view that most clauses have beside other literals, once, and beside it the rest of these clauses.
+    fn shared(&mut self, place: Place, clauses: &[Clause], level: Level) -> Vec<A> {
+        let together =
+            |n: &Literal| clauses.iter().filter(|c| c.len() > 1 && c.contains(n)).count();
+        let is_view = |n: &Literal| self.formula(*n).as_sees().is_some();
+        let views: BTreeSet<Literal> = clauses.iter().flatten().copied().filter(is_view).collect();
+        let most = views.into_iter().max_by_key(|n| (together(n), std::cmp::Reverse(*n)));
+        let Some(view) = most.filter(|n| together(n) > 1) else {
+            return self.in_form(place, clauses, Form::Packed(level));
+        };
+        let with = |c: &&Clause| c.len() > 1 && c.contains(&view);
+        let beside = |c: &Clause| c.iter().copied().filter(|n| *n != view).collect::<Clause>();
+        let rests: Vec<Clause> = clauses.iter().filter(with).map(beside).collect();
+        let others: Vec<Clause> = clauses.iter().filter(|c| !with(c)).cloned().collect();
+        let rest = self.in_form(place, &rests, Form::Packed(level));
+        let rest = fold_right(&rest, both).expect("some clause has the view");
+        let mut out = vec![either(&self.formula(view).clone(), &rest)];
+        out.extend(self.in_form(place, &others, Form::Shared(level)));
+        out
     }
 }
 

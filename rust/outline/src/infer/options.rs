@@ -122,7 +122,7 @@ impl Ground<'_> {
     }
 
     /// Sets of clauses that give the clause over the instruction.
-    fn needed(&mut self, at: At, clause: &[Literal]) -> Vec<Vec<Clause>> {
+    pub fn needed(&mut self, at: At, clause: &[Literal]) -> Vec<Vec<Clause>> {
         let q = self.formulas(clause);
         let mut all = self.needed_as_it_is(at, &q);
         // The tests of the register that is read, as one.

@@ -3,13 +3,14 @@
 use crate::build::{build_with, Built, Goal};
 use crate::command::judge::judge;
 use crate::image::to_bytes;
-use crate::infer::assemble::{with_parts, Assembled, Parts, FORMS};
+use crate::infer::assemble::{with_parts, Assembled, Form, Parts, FORMS};
 use crate::infer::claims::Claims;
 use crate::infer::clauses::clauses;
 use crate::infer::fixpoint::{Certified, Fixpoint, Stuck, Taste};
 use crate::infer::ground::Ground;
 use crate::infer::have::{Key, Keys, Width};
-use crate::infer::minimise::minimised;
+use crate::infer::minimise::{minimised, plainer};
+use crate::infer::mixed::Mixed;
 use crate::infer::options::Kind;
 use crate::infer::wish::{Breach, Wish};
 use crate::search::kept::Kept;
@@ -20,9 +21,9 @@ use reference::explore;
 use std::collections::BTreeSet;
 
 /// The tries of one inference, if nothing else is asked.
-pub const TRIES: u64 = 2_000_000;
+pub const TRIES: u64 = 1_200_000;
 /// A form in which so many obligations are open is not looked at further.
-const MOST_OPEN: usize = 3;
+const MOST_OPEN: usize = 10;
 /// The tries of the final build for one obligation.
 const BUILD_TRIES: u64 = 50_000;
 /// One run of the portfolio: the clauses that it may demand, its taste, and the order in which clauses for claims are
@@ -253,32 +254,47 @@ impl Inference<'_> {
         Ok(fixpoint.reached())
     }
 
-    /// The first form that is certified, minimised, built and judged.
+    /// The first form that is certified, minimised, built and judged; else a form for each point.
     fn assemble(&mut self, keys: &BTreeSet<Key>) -> Option<Accepted> {
+        let mut least: Option<(Form, Vec<Goal>)> = None;
         for form in FORMS {
             if !self.goes_on() {
                 return None;
             }
-            let parts = self.ground.parts(keys, &self.wish.given, form);
-            if self.is_certified(&parts) {
-                let parts = minimised(&mut self.assembled, self.source, parts, &self.wish.given);
-                if let Some(found) = self.accepted(&parts) {
+            let parts = self.ground.parts(keys, &self.wish.given, &|_| form);
+            let most = least.as_ref().map_or(MOST_OPEN, |(_, open)| open.len());
+            let open = self.open_in(&parts, most);
+            if open.is_empty() {
+                if let Some(found) = self.minimised(parts) {
                     return Some(found);
                 }
+            } else if open.len() < most {
+                least = Some((form, open));
             }
         }
-        None
+        let mixed = Mixed { source: self.source, keys, given: &self.wish.given };
+        let (watch, most) = (self.watch, self.most);
+        let goes_on = |effort: u64| effort < most && watch(effort, most);
+        let parts = mixed.parts(&mut self.ground, &mut self.assembled, least?, &goes_on)?;
+        self.minimised(parts)
     }
 
-    /// Is nothing open in this outline? The one with the least open is kept, for the message.
-    fn is_certified(&mut self, parts: &Parts) -> bool {
+    fn minimised(&mut self, parts: Parts) -> Option<Accepted> {
+        let given = &self.wish.given;
+        let parts = minimised(&mut self.assembled, self.source, parts, given);
+        let plain =
+            plainer(&mut self.assembled, self.source, parts.clone(), given, &self.ground.sample);
+        self.accepted(&plain).or_else(|| self.accepted(&parts))
+    }
+
+    /// What is open in this outline, not more than so many. The one with the least open is kept, for the message.
+    fn open_in(&mut self, parts: &Parts, most: usize) -> Vec<Goal> {
         let source = with_parts(self.source, parts);
-        let open = self.assembled.open(&source, MOST_OPEN);
-        let certified = open.is_empty();
+        let open = self.assembled.open(&source, most);
         if self.best.as_ref().is_none_or(|(_, best)| open.len() < best.len()) {
-            self.best = Some((source, open));
+            self.best = Some((source, open.clone()));
         }
-        certified
+        open
     }
 
     /// The image of the outline, if the checker accepts it.

@@ -1,9 +1,9 @@
 //! The lines found so far, each conclusion once.
 
+use crate::search::hash::Table;
 use reference::checker::rules::{follows, MOST_PREMISES, OF_PAIR};
 use reference::formula::nesting::Nesting;
 use reference::image::{Program, Statement};
-use std::collections::HashMap;
 
 /// One line with formulas in full; premises are places in the list.
 #[derive(Debug, Clone)]
@@ -14,22 +14,27 @@ pub struct Entry {
 }
 
 /// A growing list of justified lines.
-#[derive(Debug, Default)]
+#[derive(Debug, Clone, Default)]
 pub struct Certificate {
     pub entries: Vec<Entry>,
-    known: HashMap<Statement, usize>,
+    known: Table<Statement, usize>,
     /// What is known of whole pairs: the same words mean something else of a first half.
-    pairs: HashMap<Statement, usize>,
+    pairs: Table<Statement, usize>,
 }
 
 impl Certificate {
+    /// These lines, to be written down.
+    pub fn of(entries: Vec<Entry>) -> Certificate {
+        Certificate { entries, ..Certificate::default() }
+    }
+
     /// The place of a line that says this, at a pair's point of the first half.
     pub fn find(&self, statement: &Statement) -> Option<usize> {
         self.known.get(statement).copied()
     }
 
     /// The conclusions by this rule and those that mean the same by their words.
-    fn known_by(&mut self, rule: u8) -> &mut HashMap<Statement, usize> {
+    fn known_by(&mut self, rule: u8) -> &mut Table<Statement, usize> {
         match rule {
             OF_PAIR => &mut self.pairs,
             _ => &mut self.known,

@@ -2,6 +2,7 @@
 
 use crate::search::cases::cases;
 use crate::search::prover::{implication, Line, Prover};
+use crate::search::support::expand;
 use crate::terms::*;
 use reference::checker::rules::table::implies_by_table;
 use reference::checker::rules::MOST_PREMISES;
@@ -10,7 +11,9 @@ use reference::formula::Assertion;
 impl Prover<'_> {
     /// A line for P to Q, if even the wider search finds one.
     pub fn implication(&mut self, p: &A, q: &A) -> Option<Line> {
-        self.implied(p, q).or_else(|| self.widened(|all| all.implied(p, q)))
+        self.implied(p, q)
+            .or_else(|| self.widened(|all| all.implied(p, q)))
+            .or_else(|| self.implied_in_one_wording(p, q))
     }
 
     /// A line for P to Q, if the search finds one.
@@ -91,12 +94,13 @@ impl Prover<'_> {
     /// Too many premises at once: prove the sides of a disjunction in p apart.
     fn split_cases(&mut self, p: &A, q: &A) -> Option<Line> {
         let parts = conjuncts(p);
-        let (at, (a, b)) =
-            parts.iter().enumerate().find_map(|(at, c)| Some((at, c.as_either()?)))?;
+        let wide = self.wide;
+        let sides_of = |(at, c): (usize, &A)| Some((at, sides(c, wide)?));
+        let (at, sides) = parts.iter().enumerate().find_map(sides_of)?;
         let mut premises = Vec::new();
-        for side in [a, b] {
+        for side in sides {
             let mut own = parts.clone();
-            own[at] = side.clone();
+            own[at] = side;
             premises.push(self.implied(&fold_right(&own, both)?, q)?);
         }
         self.fact(20, p, q, &premises)
@@ -128,6 +132,18 @@ impl Prover<'_> {
             }
         }
         fold_right(&parts, both)
+    }
+}
+
+/// The sides of a disjunction, of assertions or, in a wide search, inside of a test.
+fn sides(a: &A, wide: bool) -> Option<[A; 2]> {
+    match &**a {
+        Assertion::Either(p, q) => Some([p.clone(), q.clone()]),
+        Assertion::Holds(e) if wide => match &*expand(e) {
+            Assertion::Either(p, q) => Some([p.clone(), q.clone()]),
+            _ => None,
+        },
+        _ => None,
     }
 }
 

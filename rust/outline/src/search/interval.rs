@@ -47,14 +47,22 @@ impl Prover<'_> {
         }
         let key = (i.clone(), j.clone());
         let kind = usize::from(self.linking);
-        let missed = self.missed[kind].get(&key).is_some_and(|d| *d >= depth);
-        if depth == 0 || missed || !self.budget.spend() {
+        let missed = self.missed[kind].get(&key).copied().filter(|d| *d >= depth);
+        if let Some(tried) = missed {
+            self.cut_short |= tried != Prover::WHATEVER_DEPTH;
             return None;
         }
+        if depth == 0 || !self.budget.spend() {
+            self.cut_short = true;
+            return None;
+        }
+        let before = std::mem::replace(&mut self.cut_short, false);
         let found = self.include_by_shape(i, j, depth - 1).or_else(|| self.by_linked_part(i, j));
         if found.is_none() && !self.budget.is_spent() {
-            self.missed[kind].insert(key, depth);
+            let tried = if self.cut_short { depth } else { Prover::WHATEVER_DEPTH };
+            self.missed[kind].insert(key, tried);
         }
+        self.cut_short |= before;
         found
     }
 
@@ -170,6 +178,26 @@ impl Prover<'_> {
                 return self.link(first, second);
             }
         }
+        if let Some(line) = self.chop_turned_left(i, (a, b), j, (c, e), d) {
+            return Some(line);
+        }
+        if e.as_all().is_some() {
+            let second = self.include_within(b, e, d)?;
+            let first = self.include_within(a, j, d)?;
+            return self.doubled_behind(i, j, c, e, [first, second]);
+        }
+        None
+    }
+
+    /// A;(B1;B2) as (A;B1);B2.
+    fn chop_turned_left(
+        &mut self,
+        i: &I,
+        (a, b): (&I, &I),
+        j: &I,
+        (c, e): (&I, &I),
+        d: u8,
+    ) -> Option<Line> {
         let (b1, b2) = b.as_chop()?;
         let front = chop(a, b1);
         let premises = [self.include_within(&front, c, d)?, self.include_within(b2, e, d)?];
@@ -177,6 +205,19 @@ impl Prover<'_> {
         let first = self.part(34, i, &turned, &[])?;
         let second = self.part(32, &turned, j, &premises)?;
         self.link(first, second)
+    }
+
+    /// A;B with A in C;D and B in D, D a test: (C;D);D is C;(D;D), and D;D is in D.
+    fn doubled_behind(&mut self, i: &I, j: &I, c: &I, e: &I, premises: [Line; 2]) -> Option<Line> {
+        let spread = chop(j, e);
+        let first = self.part(32, i, &spread, &premises)?;
+        let turned = chop(c, &chop(e, e));
+        let turn = self.part(33, &spread, &turned, &[])?;
+        let once = self.part(37, &chop(e, e), e, &[])?;
+        let same = self.part(46, c, c, &[])?;
+        let last = self.part(32, &turned, j, &[same, once])?;
+        let half = self.link(first, turn)?;
+        self.link(half, last)
     }
 
     /// A;B with A in C and B in C;D, C a test: C;(C;D) is (C;C);D, and C;C is in C.
@@ -272,6 +313,13 @@ mod tests {
         assert!(found(&chop(&is(0), &chop(&is(1), &is(0))), &low));
         assert!(found(&chop(&is(0), &chop(&is(1), &is(2))), &chop(&low, &is(2))));
         assert!(!found(&chop(&is(0), &is(2)), &low));
+    }
+
+    #[test]
+    fn a_test_at_the_end_takes_in_what_is_appended() {
+        let risen = chop(&is(0), &is(1));
+        assert!(found(&chop(&risen, &is(1)), &risen));
+        assert!(!found(&chop(&risen, &is(0)), &risen));
     }
 
     #[test]

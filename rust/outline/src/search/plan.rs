@@ -147,21 +147,4 @@ impl Prover<'_> {
             Plan::Any(goal, _) => goal.clone(),
         }
     }
-
-    /// The preconditions of a plan's ways, for messages.
-    pub fn ways(&self, plan: &Plan, found: &mut Vec<A>) {
-        match plan {
-            Plan::Ready(line) => {
-                if !found.contains(&self.left(*line)) {
-                    found.push(self.left(*line));
-                }
-            }
-            Plan::All(a, b) | Plan::Side(a, b) => {
-                self.ways(a, found);
-                self.ways(b, found);
-            }
-            Plan::Any(_, all) => all.iter().for_each(|p| self.ways(p, found)),
-            Plan::Then(a, _) => self.ways(a, found),
-        }
-    }
 }

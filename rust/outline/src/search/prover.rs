@@ -2,11 +2,12 @@
 
 use crate::search::budget::Budget;
 use crate::search::certificate::Certificate;
+use crate::search::hash::{Set, Table};
+use crate::search::tried::Lacking;
 use crate::terms::*;
 use crate::text::print::Names;
 use reference::checker::rules::rows::implies_by_rows;
 use reference::image::{Instruction, Program, Statement};
-use std::collections::{HashMap, HashSet};
 
 /// A place in the certificate.
 pub type Line = usize;
@@ -16,17 +17,19 @@ pub struct Prover<'a> {
     pub program: &'a Program,
     pub lines: Certificate,
     /// Inclusions that were not found, with the depth that was tried; inside of a chain and outside.
-    pub missed: [HashMap<(I, I), u8>; 2],
+    pub missed: [Table<(I, I), u8>; 2],
+    /// Did the depth end the search for the inclusion at hand? A miss that it did not end is one at any depth.
+    pub cut_short: bool,
     /// Implications that were not found, for each kind of search.
-    pub refuted: [HashSet<(A, A)>; 4],
+    pub refuted: [Set<(A, A)>; 4],
     /// Triples from one view that were not found, with the kind of search.
-    pub unreached: HashSet<(At, I, A, usize)>,
+    pub unreached: Set<(At, I, A, usize)>,
     /// How much of the search is left for the obligation or the step at hand.
     pub budget: Budget,
     /// Lines without premises that do not fit their rule: rows are slow to try again.
-    pub unfit: HashSet<(u8, Statement)>,
+    pub unfit: Set<(u8, Statement)>,
     /// What was found by rows.
-    pub rows: HashMap<(T, T), bool>,
+    pub rows: Table<(T, T), bool>,
     /// Implications that the writer named.
     pub facts: Vec<Line>,
     /// Triples that the writer named.
@@ -34,36 +37,43 @@ pub struct Prover<'a> {
     /// Where steps stand among the ways to a part of a goal.
     pub steps_stand: Stand,
     /// Obligations that were not found when a step was named that they might make up.
-    pub postponed: HashSet<Statement>,
+    pub postponed: Set<Statement>,
     /// Inclusions that the writer named.
     pub parts: Vec<Line>,
     /// Is what was named tried as a link already? One chain is not sought inside of another.
     pub linking: bool,
     /// What was tried for the obligation at hand, for the message if it stays open.
     pub tried: Vec<String>,
+    /// The case of the obligation at hand that nothing served.
+    pub lacking: Option<Lacking>,
     pub names: Names,
     /// Are views joined with the tests about their own registers, and for these with other threads' views?
     pub wide: bool,
 }
 
 impl<'a> Prover<'a> {
+    /// The depth of a miss that no depth makes good.
+    pub const WHATEVER_DEPTH: u8 = u8::MAX;
+
     pub fn new(program: &'a Program, names: Names) -> Self {
         Prover {
             program,
             lines: Certificate::default(),
             missed: Default::default(),
+            cut_short: false,
             refuted: Default::default(),
-            unreached: HashSet::new(),
+            unreached: Set::default(),
             budget: Budget::default(),
-            unfit: HashSet::new(),
-            rows: HashMap::new(),
+            unfit: Set::default(),
+            rows: Table::default(),
             facts: Vec::new(),
             steps: Vec::new(),
             steps_stand: Stand::Nowhere,
-            postponed: HashSet::new(),
+            postponed: Set::default(),
             parts: Vec::new(),
             linking: false,
             tried: Vec::new(),
+            lacking: None,
             names,
             wide: false,
         }

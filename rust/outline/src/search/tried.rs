@@ -2,73 +2,36 @@
 
 use crate::search::cases::{cases, Case};
 use crate::search::implication::conjuncts;
-use crate::search::interval::hull;
 use crate::search::plan::{Choice, Plan};
 use crate::search::prover::{Line, Prover};
 use crate::terms::*;
-use reference::formula::Assertion;
 
-/// How many of the ways tried are listed in a message.
-const MOST_TOLD: usize = 12;
+/// A case of the left side that nothing served, and the ways to the goal that were known.
+#[derive(Debug, Clone)]
+pub struct Lacking {
+    pub case: Case,
+    pub plan: Plan,
+}
 
 impl Prover<'_> {
-    fn tell_known(&mut self, case: &Case) {
+    /// What is known in a case, in words.
+    pub fn known_words(&self, case: &Case) -> String {
         let tests = case.tests.iter().map(holds);
         let leaves: Vec<String> =
             case.sees.iter().cloned().chain(tests).map(|a| self.names.assertion(&a)).collect();
         let start = case.start.then(|| "start".to_string());
         let known: Vec<String> = start.into_iter().chain(leaves).collect();
-        let text = if known.is_empty() { "nothing is known".into() } else { known.join(", ") };
-        self.tried.push(format!("open case    {text}"));
-    }
-
-    /// A case that nothing served: which parts of the goal, and what their rules would ask for.
-    pub fn tell_case(&mut self, case: &Case, plan: &Plan) {
-        self.tell_known(case);
-        for part in self.missing(case, plan) {
-            let text = format!("not reached  {}", self.names.assertion(&self.goal(&part)));
-            self.tried.push(text);
-            self.tell_ways(case, &part);
+        if known.is_empty() {
+            "nothing is known".into()
+        } else {
+            known.join(", ")
         }
     }
 
-    /// What a precondition asks for beyond the case; none if it cannot be.
-    fn asked_beyond(&mut self, case: &Case, way: &A) -> Option<A> {
-        let parts = conjuncts(way);
-        if parts.iter().any(|part| self.never(part)) {
-            return None;
-        }
-        let lacking: Vec<A> = parts.into_iter().filter(|part| !self.serves(case, part)).collect();
-        Some(fold_right(&lacking, both).unwrap_or_else(|| way.clone()))
-    }
-
-    /// Can it be true in no state, by its tests alone?
-    fn never(&mut self, part: &A) -> bool {
-        let test = match &**part {
-            Assertion::Holds(e) => Some(e.clone()),
-            Assertion::Sees(_, i) => hull(i),
-            _ => None,
-        };
-        test.is_some_and(|e| self.by_rows(&e, &falsehood()))
-    }
-
-    /// The preconditions by which a goal could be reached: each once, without what the case has already.
-    fn tell_ways(&mut self, case: &Case, plan: &Plan) {
-        let mut ways = Vec::new();
-        self.ways(plan, &mut ways);
-        let ways = least(unique(ways.iter().filter_map(|way| self.asked_beyond(case, way))));
-        let first = if ways.is_empty() { "no rule leads there" } else { "would need" };
-        for (n, way) in ways.iter().take(MOST_TOLD).enumerate() {
-            let lead = if n == 0 { first } else { "or" };
-            let text = format!("  {lead:<10} {}", self.names.assertion(way));
-            self.tried.push(text);
-        }
-        if ways.len() > MOST_TOLD {
-            self.tried.push(format!("  or one of {} more", ways.len() - MOST_TOLD));
-        }
-        if ways.is_empty() {
-            self.tried.push(format!("  {first}"));
-        }
+    /// The parts of a goal that its case does not lead to.
+    pub fn not_reached(&mut self, lacking: &Lacking) -> Vec<A> {
+        let parts = self.missing(&lacking.case, &lacking.plan);
+        unique(parts.iter().map(|part| self.goal(part)))
     }
 
     /// The parts of a plan's conjunctions that the case does not serve.
@@ -99,15 +62,17 @@ impl Prover<'_> {
     /// The first case of p that does not give q, and the parts of q that are missing there.
     pub fn tell_implication(&mut self, p: &A, q: &A) -> Option<Line> {
         let Some(all) = cases(p) else {
-            self.tried
-                .push("tried        nothing: more than 10 leaves are too many for rule 20".into());
+            self.tell_leaves(p);
             return None;
         };
         for case in all {
             if self.support(&case, q).is_some() {
                 continue;
             }
-            self.tell_known(&case);
+            if self.budget.is_spent() {
+                return None;
+            }
+            self.tried.push(format!("open case    {}", self.known_words(&case)));
             for part in conjuncts(q) {
                 if !self.serves(&case, &part) {
                     let text = format!("missing      {}", self.names.assertion(&part));
@@ -123,14 +88,4 @@ impl Prover<'_> {
         self.tried.push("             they pass 10 leaves or 4 premises of rule 20".into());
         None
     }
-}
-
-/// Without preconditions that ask for all that another one asks for, and for more.
-fn least(ways: Vec<A>) -> Vec<A> {
-    let parts: Vec<Vec<A>> = ways.iter().map(conjuncts).collect();
-    let asks_more = |own: &Vec<A>| {
-        parts.iter().any(|p| p.len() < own.len() && p.iter().all(|part| own.contains(part)))
-    };
-    let kept = ways.iter().zip(&parts).filter(|(_, own)| !asks_more(own));
-    kept.map(|(way, _)| way.clone()).collect()
 }

@@ -1,11 +1,13 @@
 //! Search for triples: plans by the shape of the goal, then the cases of the left side.
 
+use crate::search::budget::SHARE;
 use crate::search::cases::{cases, Case};
 use crate::search::implication::conjuncts;
 use crate::search::interval::both_parts;
 use crate::search::plan::{Choice, Done, Plan};
 use crate::search::prover::{At, Line, Prover, Stand};
 use crate::search::support::expand;
+use crate::search::tried::Lacking;
 use crate::terms::*;
 use reference::checker::rules::table::Leaves;
 use reference::checker::rules::{before_load, before_notes, keeps, Load};
@@ -30,52 +32,106 @@ impl Context {
     }
 }
 
+/// What a search for a triple goes by.
+#[derive(Debug, Clone, Copy, PartialEq, Eq)]
+enum With {
+    /// The rules alone: steps that were named never make a search longer that needs none of them.
+    Rules,
+    /// Named steps, with their gaps searched.
+    Steps,
+    /// The rules, and behind them the named steps.
+    StepsLast,
+    /// The named steps, and behind them the rules.
+    StepsFirst,
+}
+
+impl With {
+    const ALL: [With; 4] = [With::Rules, With::Steps, With::StepsLast, With::StepsFirst];
+}
+
 impl Prover<'_> {
-    /// A line for {P} c {Q}, if the search finds one; perhaps by cases that P does not tell apart.
+    /// A line for {P} c {Q}, if the search finds one. Each way of searching has its share of the tries first, so that
+    /// none keeps the others from their turn, and then what is left.
     pub fn triple(&mut self, at: At, p: &A, q: &A) -> Option<Line> {
         if let Some(line) = self.lines.find(&at.triple(p, q)) {
             return Some(line);
         }
         let named = self.steps_at(at);
-        self.by_fitting_steps(at, p, q, &named)
-            .or_else(|| self.unaided(at, p, q))
-            .or_else(|| self.aided(at, p, q, &named))
-    }
-
-    /// Without the steps that were named, so that they never make a search longer that needs none of them.
-    fn unaided(&mut self, at: At, p: &A, q: &A) -> Option<Line> {
-        let stand = Stand::Nowhere;
-        self.with_steps(stand, at, p, q).or_else(|| {
-            self.widened(|all| {
-                all.with_steps(stand, at, p, q).or_else(|| all.triple_by_tests(stand, at, p, q))
-            })
-        })
-    }
-
-    /// With the steps that were named, their gaps searched: alone, then last and first among the ways.
-    fn aided(&mut self, at: At, p: &A, q: &A, named: &[Line]) -> Option<Line> {
-        if named.is_empty() {
-            return None;
+        if let Some(line) = self.by_fitting_steps(at, p, q, &named) {
+            return Some(line);
         }
-        let told = self.tried.clone();
-        let search = |all: &mut Self| {
-            all.by_steps(at, p, q, named)
-                .or_else(|| all.with_steps(Stand::Last, at, p, q))
-                .or_else(|| all.with_steps(Stand::First, at, p, q))
+        let aided = |with: &&With| named.is_empty() && **with != With::Rules;
+        let mut searches: Vec<(With, bool)> = Vec::new();
+        for with in With::ALL.iter().filter(|with| !aided(with)) {
+            searches.extend([(*with, false), (*with, true)]);
+        }
+        searches.sort_by_key(|(with, wide)| (*with != With::Rules, *wide));
+        for share in [SHARE, u64::MAX] {
+            let mut unended = Vec::new();
+            for (with, wide) in searches {
+                let (found, ended) = self.within(share, |all| match wide {
+                    true => all.widened(|all| all.triple_with(with, wide, at, p, q)),
+                    false => all.triple_with(with, wide, at, p, q),
+                });
+                if found.is_some() {
+                    return found;
+                }
+                unended.extend((!ended).then_some((with, wide)));
+            }
+            searches = unended;
+        }
+        let told = (self.tried.clone(), self.lacking.clone());
+        let found = self.triple_in_one_wording(at, p, q);
+        (self.tried, self.lacking) = told;
+        found
+    }
+
+    /// What a search finds within a share of the tries, and whether it came to its end.
+    fn within(
+        &mut self,
+        share: u64,
+        search: impl FnOnce(&mut Self) -> Option<Line>,
+    ) -> (Option<Line>, bool) {
+        let aside = self.budget.set_aside(share);
+        let found = search(self);
+        let ended = !self.budget.is_spent();
+        self.budget.take_back(aside);
+        (found, ended)
+    }
+
+    /// One search for {P} c {Q}; what is told of it is what it was without named steps.
+    fn triple_with(&mut self, with: With, wide: bool, at: At, p: &A, q: &A) -> Option<Line> {
+        let told = (self.tried.clone(), self.lacking.clone());
+        let (found, stand) = match with {
+            With::Rules => (self.with_steps(Stand::Nowhere, at, p, q), Stand::Nowhere),
+            With::Steps => {
+                let named = self.steps_at(at);
+                (self.by_steps(at, p, q, &named), Stand::Nowhere)
+            }
+            With::StepsLast => (self.with_steps(Stand::Last, at, p, q), Stand::Last),
+            With::StepsFirst => (self.with_steps(Stand::First, at, p, q), Stand::Last),
         };
-        let found = search(self).or_else(|| {
-            self.widened(|all| search(all).or_else(|| all.triple_by_tests(Stand::Last, at, p, q)))
+        let by_tests = wide && matches!(with, With::Rules | With::StepsFirst);
+        let found = found.or_else(|| match by_tests {
+            true => self.triple_by_tests(stand, at, p, q),
+            false => None,
         });
-        self.tried = told;
+        if with != With::Rules {
+            (self.tried, self.lacking) = told;
+        }
         found
     }
 
     /// By the ways to the goal, among which the steps that were named stand so.
     fn with_steps(&mut self, stand: Stand, at: At, p: &A, q: &A) -> Option<Line> {
-        self.tried.clear();
+        let told = (std::mem::take(&mut self.tried), self.lacking.take());
         self.steps_stand = stand;
         let found = self.triple_by_cases(at, p, q);
         self.steps_stand = Stand::Nowhere;
+        // A search that ended without tries has nothing to tell.
+        if self.tried.is_empty() && self.lacking.is_none() {
+            (self.tried, self.lacking) = told;
+        }
         found
     }
 
@@ -91,17 +147,16 @@ impl Prover<'_> {
         let split = both(p, &fold_right(&known, both)?);
         let first = self.fact(20, p, &split, &[])?;
         // What was tried without these tests is told.
-        let told = self.tried.clone();
+        let told = (self.tried.clone(), self.lacking.clone());
         let line = self.with_steps(stand, at, &split, q);
-        self.tried = told;
+        (self.tried, self.lacking) = told;
         self.consequence(at, Some(first), line?, None)
     }
 
     fn triple_by_cases(&mut self, at: At, p: &A, q: &A) -> Option<Line> {
         let context = Context { at, views: views_in(p) };
         let Some(all) = cases(p) else {
-            self.tried
-                .push("tried        nothing: more than 10 leaves are too many for rule 20".into());
+            self.tell_leaves(p);
             return None;
         };
         let done = self.serve(&context, all, q)?;
@@ -144,7 +199,10 @@ impl Prover<'_> {
         let mut choice = Choice::new(plan);
         for case in possible {
             if !self.choose(&case, &mut choice) {
-                self.tell_case(&case, &choice.plan);
+                // Without tries nothing is served, which says nothing.
+                if !self.budget.is_spent() {
+                    self.lacking = Some(Lacking { case, plan: choice.plan });
+                }
                 return None;
             }
         }

@@ -111,6 +111,9 @@ impl Prover<'_> {
         for i in self.fronts(context, u, j) {
             let before = both(&alone, &sees(u, &i));
             self.way(at, 7, &before, (u, &chop(&i, &new)), j, ways);
+            if !registers_of(store.value.as_ref()).is_empty() {
+                self.way_by_result(context, 7, &before, (u, &chop(&i, &new)), j, ways);
+            }
             if instruction.releasing_store().is_some() {
                 for k in self.passed_on(context, x, j) {
                     let after = chop(&i, &chop(&unsync(x), &k));
@@ -139,16 +142,23 @@ impl Prover<'_> {
         let about = boxed_tests(j).into_iter().filter(|e| e.has_word(write.word));
         let values = about.map(|e| replaced(&e, x.clone(), &write.value));
         let passed: Vec<T> = unique(values.filter(|e| registers_only(e.as_ref())));
-        let Some(passed) = fold_right(&passed, and) else { return };
+        let Some(together) = fold_right(&passed, and) else { return };
         if !self.wide || self.include(k, j).is_some() {
             return;
         }
-        let known = holds(&passed);
-        let Some(last) = self.implied(&both(&sees(u, k), &known), &sees(u, j)) else { return };
-        if let Some(line) = self.step(at, rule, before, &sees(u, k), &[]) {
-            let values = self.plan(context, &known);
-            let all = Plan::All(Plan::Ready(line).into(), values.into());
-            ways.push(Plan::Then(all.into(), last));
+        // All of them, or one alone, since along a chop they may exclude each other. In a view a test of many
+        // comparisons is one leaf.
+        for passed in unique([together].into_iter().chain(passed)) {
+            for known in [holds(&passed), sees(u, &all(&passed))] {
+                let joined = both(&sees(u, k), &known);
+                let Some(last) = self.implied(&joined, &sees(u, j)) else { continue };
+                if let Some(line) = self.step(at, rule, before, &sees(u, k), &[]) {
+                    let values = self.plan(context, &known);
+                    let all = Plan::All(Plan::Ready(line).into(), values.into());
+                    ways.push(Plan::Then(all.into(), last));
+                }
+                break;
+            }
         }
     }
 
