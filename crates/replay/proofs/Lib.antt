@@ -1,1 +1,2 @@
+pub mod OpenBranches
 pub mod WholeBranches

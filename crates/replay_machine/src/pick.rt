@@ -36,7 +36,7 @@ pub fn total_of(memory: Memory, words: u8) -> usize
 }
 
 // The operation adds a write.
-fn is_adding(operation: u8) -> bool
+pub fn is_adding(operation: u8) -> bool
     ensures { λ r. ⌜ r ≡ adding operation ⌝ }
 {
     if operation <= Instruction::ACQUIRE {

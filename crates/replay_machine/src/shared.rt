@@ -17,7 +17,7 @@ ghost use Rattle.replay_memory.specs.Memory.{memoryOf};
 ghost use Rattle.replay_machine.specs.Shared.{reachableBy, uncovered, mayPick, fetchAdded, memoryAfter};
 
 // The position is in the row of word `x`, at or after the one that the view of thread `t` names.
-fn is_reachable(shape: MemoryShape, t: u8, x: u8, position: u8) -> bool
+pub fn is_reachable(shape: MemoryShape, t: u8, x: u8, position: u8) -> bool
     ensures { λ r. ⌜ r ≡ reachableBy shape t x position ⌝ }
 {
     let sizes = shape.sizes;

@@ -47,7 +47,7 @@ fn start_register(body: &[u8], range: u8, given: &[u8], i: usize) -> u8
 }
 
 // All registers at the start.
-fn start_registers(body: &[u8], range: u8, given: &[u8]) -> Registers
+pub fn start_registers(body: &[u8], range: u8, given: &[u8]) -> Registers
     ensures { λ r. ⌜ r ≡ startRegisters (now (body .entry)) range (now (given .entry)) ⌝ }
 {
     let mut at = [0u8; 16];

@@ -44,7 +44,7 @@ fn value_at<'a, 'b>(
 }
 
 // The effect of the instruction at `point` of thread `t`, its formulas worked out at the registers before the step.
-fn effect_at<'a, 'b>(
+pub fn effect_at<'a, 'b>(
     image: &'a [u8],
     index: &'b [usize],
     sizes: Sizes,
@@ -63,7 +63,7 @@ fn effect_at<'a, 'b>(
 }
 
 // The last point of thread `t`, counted from 1.
-fn last_of<'a, 'b>(image: &'a [u8], index: &'b [usize], sizes: Sizes, t: u8) -> usize
+pub fn last_of<'a, 'b>(image: &'a [u8], index: &'b [usize], sizes: Sizes, t: u8) -> usize
     requires { ⌜ now index ≡ indexOf (now image) ⌝ }
     ensures { λ r. ⌜ r ≡ lastOf (now (image .entry)) sizes t ⌝ }
 {

@@ -18,7 +18,7 @@ ghost use Rattle.replay_memory.specs.Memory.{memoryOf};
 ghost use Rattle.replay_memory.specs.Access.{readFrom, loaded, put, stored, swapFrom, swapped};
 
 // The view after a load of `write`: if it acquires and the write is releasing, the stored view is joined in; else only that word moves.
-fn read_view(write: Write, view: View, acquires: bool, x: u8, position: u8) -> View
+pub fn read_view(write: Write, view: View, acquires: bool, x: u8, position: u8) -> View
     ensures { λ r. ⌜ r ≡ readFrom write view acquires x position ⌝ }
 {
     if acquires {
@@ -102,7 +102,7 @@ pub fn store(
 }
 
 // The view from which a swap that picks `write` writes: if the write is releasing, its stored view is joined in.
-fn swap_view(write: Write, view: View) -> View
+pub fn swap_view(write: Write, view: View) -> View
     ensures { λ r. ⌜ r ≡ swapFrom write view ⌝ }
 {
     if write.releasing {

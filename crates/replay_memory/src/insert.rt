@@ -15,7 +15,7 @@ ghost use Rattle.replay_memory.specs.Memory.{memoryOf};
 ghost use Rattle.replay_memory.specs.Insert.{grown, inserted};
 
 // The sizes and views after one more write of word `x`, behind `position`: threads' views keep their writes.
-fn grow(shape: MemoryShape, x: u8, position: u8) -> MemoryShape
+pub fn grow(shape: MemoryShape, x: u8, position: u8) -> MemoryShape
     ensures { λ r. ⌜ r ≡ grown shape x position ⌝ }
 {
     let none = start_view();

@@ -76,7 +76,7 @@ module _ (b : List ℕ) (z : Sizes) (c : Checks z (bodies b)) (room : ℕ) (few 
   refusal-absent s u p h = let q : 1 ≤ suc u = omega arith in rw (le-leb 1 (suc u) q, lt-leb (suc u) (z .threads) h)
 
   -- a step of any thread, there or not
-  any-step : (s : State) (n : Machine) → Ready b z c s n → (t p : ℕ)
+  pub any-step : (s : State) (n : Machine) → Ready b z c s n → (t p : ℕ)
       → (stepped b z room n t p .code ≡ refusal P room s t p) ×
       (refusal P room s t p ≡ 0 → Ready b z c (exec P (instrAt P s t) t p s) (stepped b z room n t p .machine))
   unfolding stepped refusal

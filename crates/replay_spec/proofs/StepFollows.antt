@@ -56,7 +56,7 @@ use Rattle.replay_spec.specs.StateStands.{StandsFor}
 use Rattle.replay_machine.specs.declared.state.Machine.{Machine}
 
 -- the deed's operation is the instruction's
-effect-operation : (i : Instruction) (v g : ℕ) → effectOf i v g .operation ≡ i .operation
+pub effect-operation : (i : Instruction) (v g : ℕ) → effectOf i v g .operation ≡ i .operation
 unfolding effectOf
 effect-operation i v g = go (registerFirst (i .operation))
   where

@@ -1,38 +1,76 @@
--- The ways through the functions, one law for each.
+-- The ways through the functions on one entry, one law for each; the sweep.
 use mathlib.Core.Path.{_≡_, refl, sym, ap, _∙_}
-use Prim.Native.Nat.{ℕ, zero, suc, _≤_, _<_}
+use Prim.Native.Nat.{ℕ, zero, suc, _+_, _-_, _≤_, _<_}
+use native.Mathlib.Omega.{arith}
+use mathlib.Core.Bool.{Bool, true, false, cond}
 use mathlib.Core.List.{List}
-use lib.ListN.{length, getD, set, length-set, List·getD-eq-default}
-use lib.Seq.{set-out}
-use borrow.Author.Tests.{lt-ltb, le-ltb}
+use lib.Dec.{eqb, ltb}
+use lib.ListN.{length, getD, set, length-set}
+use borrow.Author.Tests.{lt-ltb, le-ltb, eq-eqb, ne-eqb, eqb-true, eqb-false, ltb-true, ltb-false}
 use Rattle.replay_memory.specs.View.{upView}
-use Rattle.replay_memory.specs.Write.{noWrite, upWrite}
+use Rattle.replay_memory.specs.Write.{noWrite, startWrite, upWrite, coveredWrite}
 use Rattle.replay_memory.specs.declared.view.View.{View}
 use Rattle.replay_memory.specs.declared.write.Write.{Write}
-use Rattle.replay_table.specs.Sweep.{turnOf, sweepAt, sweepTo, sweptOf, stepOf, stepAt, stepsTo}
-use Rattle.replay_table.specs.declared.Order.{Order}
-use Rattle.replay_table.specs.declared.Run.{Run}
-use Rattle.replay_table.specs.declared.Turn.{Turn}
+use Rattle.replay_table.specs.Sweep.{noOrder, startOrder, coverAt, turnOf, visits, sweepAt, sweepTo, sweptOf}
+use Rattle.replay_table.specs.declared.order.Order.{Order}
+use Rattle.replay_table.specs.declared.order.Turn.{Turn}
 
 pub raise-write : (w : Write) (k p : ℕ) (u : View) → u ≡ upView k p (w .stored)
     → record { value = w .value; releasing = w .releasing; covered = w .covered; stored = u } ≡ upWrite k p w
 unfolding upWrite
 raise-write w k p u e = rw e
 
+-- nothing to insert, and a start write
+pub no-made : (w : Write) → w ≡ startWrite 0
+    → record { count = 0; at = 0; word = 0; behind = 0; covers = false; write = w } ≡ noOrder
+no-made w e = rw e
+
+pub start-made : (k v : ℕ) (w : Write) → w ≡ startWrite v
+    → record { count = k + 1; at = k; word = k; behind = 255; covers = false; write = w } ≡ startOrder k v
+start-made k v w e = rw e
+
+-- the entry after entry i
+pub next-there : (i at : ℕ) → i < at → eqb (at - i) 1 ≡ eqb at (suc i)
+next-there i at h = go (eqb (at - i) 1) refl
+  where
+    go : (b : Bool) → eqb (at - i) 1 ≡ b → b ≡ eqb at (suc i)
+    go true e = let q : at - i ≡ 1 = eqb-true (at - i) 1 e in let d : at ≡ suc i = omega arith in sym (eq-eqb at (suc i) d)
+    go false e =
+        let q : at - i ≡ 1 → ⊥ = eqb-false (at - i) 1 e in
+        sym (ne-eqb at (suc i) (λ (d : at ≡ suc i). q (omega arith)))
+
+pub next-past : (i at : ℕ) → at ≤ i → false ≡ eqb at (suc i)
+next-past i at h = sym (ne-eqb at (suc i) (λ (d : at ≡ suc i). omega arith))
+
+pub ruleset is-next-branches = (next-there, next-past)
+
+module _ (o : Order) (e : ℕ) (w : Write) where
+  pub cover-not : o .covers ≡ false → w ≡ coverAt o e w
+  unfolding coverAt
+  cover-not h = rw h
+
+  module _ (b : Bool) (d : b ≡ eqb (o .at) (suc e)) (h : o .covers ≡ true) where
+    pub cover-there : b ≡ true → record { value = w .value; releasing = w .releasing; covered = true; stored = w .stored } ≡ coverAt o e w
+    unfolding coverAt coveredWrite
+    cover-there g = rw (h, ← d, g)
+
+    pub cover-else : b ≡ false → w ≡ coverAt o e w
+    unfolding coverAt
+    cover-else g = rw (h, ← d, g)
+
+pub ruleset covered-by-branches = (cover-not, cover-there, cover-else)
+
 module _ (o : Order) (e : ℕ) (carried old w : Write) where
-  pub turn-past : o .count ≤ e → record { put = old; next = carried } ≡ turnOf o e carried old
+  pub turn-before : (c : Write) → c ≡ coverAt o e old → w ≡ upWrite (o .word) (o .behind) c → e < o .at
+      → record { put = w; next = carried } ≡ turnOf o e carried old
   unfolding turnOf
-  turn-past h = rw (le-ltb e (o .count) h)
+  turn-before c f d h = rw (d, f, lt-ltb e (o .at) h)
 
-  pub turn-before : w ≡ upWrite (o .word) (o .behind) old → e < o .count → e < o .at → record { put = w; next = carried } ≡ turnOf o e carried old
+  pub turn-from : w ≡ upWrite (o .word) (o .behind) old → o .at ≤ e → record { put = carried; next = w } ≡ turnOf o e carried old
   unfolding turnOf
-  turn-before d g h = rw (d, lt-ltb e (o .count) g, lt-ltb e (o .at) h)
+  turn-from d h = rw (d, le-ltb e (o .at) h)
 
-  pub turn-from : w ≡ upWrite (o .word) (o .behind) old → e < o .count → o .at ≤ e → record { put = carried; next = w } ≡ turnOf o e carried old
-  unfolding turnOf
-  turn-from d g h = rw (d, lt-ltb e (o .count) g, le-ltb e (o .at) h)
-
-pub ruleset turn-at-branches = (turn-past, turn-before, turn-from)
+pub ruleset turn-at-branches = (turn-before, turn-from)
 
 -- the sweep: nothing swept, one entry more, and the length
 pub sweep-none : (o : Order) (l : List Write) → sweepTo o 0 l ≡ (l, o .write)
@@ -43,34 +81,39 @@ pub sweep-more : (o : Order) (n : ℕ) (l : List Write) → sweepTo o (suc n) l 
 unfolding sweepTo
 sweep-more o n l = refl
 
-pub sweep-next : (o : Order) (n : ℕ) (l m : List Write) (c : Write) (t : Turn) → (m, c) ≡ sweepTo o n l → t ≡ turnOf o n c (getD m n noWrite)
+pub sweep-next : (o : Order) (n : ℕ) (l m : List Write) (c : Write)
+    (t : Turn) → (m, c) ≡ sweepTo o n l → t ≡ turnOf o n c (getD m n noWrite)
     → (set m n (t .put), t .next) ≡ sweepTo o (suc n) l
 sweep-next o n l m c t e d = rw (sweep-more o n l, ← e, d)
 
 pub sweep-length : (o : Order) (n : ℕ) (l : List Write) → length (sweepTo o n l .0) ≡ length l
 sweep-length o zero l = rw (sweep-none o l)
-sweep-length o (suc n) l = ap (λ (s : List Write × Write). length (s .0)) (sweep-more o n l) ∙ length-set (sweepTo o n l .0) n _ ∙ sweep-length o n l
+sweep-length o (suc n) l =
+    ap (λ (s : List Write × Write). length (s .0)) (sweep-more o n l) ∙ length-set (sweepTo o n l .0) n _ ∙ sweep-length o n l
 
-pub swept : (o : Order) (l : List Write) (z : List Write × Write) → z ≡ sweepTo o (length l) l → z .0 ≡ sweptOf o l
+pub swept : (o : Order) (l : List Write) (n : ℕ)
+    (z : List Write × Write) → n ≡ visits o (length l) → z ≡ sweepTo o n l → z .0 ≡ sweptOf o l
 unfolding sweptOf
-swept o l z e = ap (λ (y : List Write × Write). y .0) e
+swept o l n z f e = ap (λ (y : List Write × Write). y .0) (e ∙ ap (λ (j : ℕ). sweepTo o j l) f)
 
--- the steps: none, and one more
-pub steps-none : (none : Write) (z : List Write × Run) → stepsTo none 0 z ≡ z
-unfolding stepsTo
-steps-none none z = refl
+pub swept-length : (o : Order) (l : List Write) → length (sweptOf o l) ≡ length l
+unfolding sweptOf
+swept-length o l = sweep-length o (visits o (length l)) l
 
-pub steps-more : (none : Write) (n : ℕ) (z : List Write × Run) → stepsTo none (suc n) z ≡ stepAt none (stepsTo none n z)
-unfolding stepsTo
-steps-more none n z = refl
+-- the entries visited are there
+pub visits-few : (o : Order) (n : ℕ) → visits o n ≤ n
+unfolding visits
+visits-few o n = go (ltb (o .count) n) refl
+  where
+    go : (b : Bool) → ltb (o .count) n ≡ b → cond b (o .count) n ≤ n
+    go true e = let h = ltb-true (o .count) n e in omega arith
+    go false e = omega arith
 
-pub steps-next : (none : Write) (n : ℕ) (z y : List Write × Run) (w : Write) (r : Run) (m : List Write) → y ≡ stepsTo none n z
-    → w ≡ getD (y .0) (y .1 .at) none → r ≡ stepOf (y .1) w → m ≡ sweptOf (r .order) (y .0) → (m, r) ≡ stepsTo none (suc n) z
-steps-next none n z y w r m e a d g = rw (steps-more none n z, ← e, g, d, a)
-
--- past the end of a list of numbers
-pub set-none : (l : List ℕ) (i a : ℕ) → length l ≤ i → l ≡ set l i a
-set-none l i a h = sym (set-out l i a h)
-
-pub get-none : (l : List ℕ) (i a : ℕ) → length l ≤ i → a ≡ getD l i a
-get-none l i a h = sym (List·getD-eq-default l a h)
+-- all entries in use are visited, where they are there
+pub visits-all : (o : Order) (n : ℕ) → o .count ≤ n → visits o n ≡ o .count
+unfolding visits
+visits-all o n h = go (ltb (o .count) n) refl
+  where
+    go : (b : Bool) → ltb (o .count) n ≡ b → cond b (o .count) n ≡ o .count
+    go true e = refl
+    go false e = let g = ltb-false (o .count) n e in omega arith

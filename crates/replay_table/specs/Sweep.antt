@@ -1,23 +1,36 @@
 -- Insertion of a write into a table of writes, by one sweep of its entries.
-use Prim.Native.Nat.{ℕ, zero, suc}
-use mathlib.Core.Bool.{cond}
+use Prim.Native.Nat.{ℕ, zero, suc, _+_}
+use mathlib.Core.Bool.{false, cond}
 use mathlib.Core.List.{List}
-use lib.Dec.{ltb}
+use lib.Dec.{eqb, ltb}
 use lib.ListN.{length, getD, set}
-use Rattle.replay_memory.specs.Write.{noWrite, upWrite}
+use Rattle.replay_memory.specs.Write.{noWrite, startWrite, upWrite, coveredWrite}
 use Rattle.replay_memory.specs.declared.write.Write.{Write}
-use Rattle.replay_table.specs.declared.Order.{Order}
-use Rattle.replay_table.specs.declared.Run.{Run}
-use Rattle.replay_table.specs.declared.Turn.{Turn}
+use Rattle.replay_table.specs.declared.order.Order.{Order}
+use Rattle.replay_table.specs.declared.order.Turn.{Turn}
 
--- the turn of entry e, which has `old`: before the place it keeps its write, from it on it takes the carried one; from `count` on it stays
+-- nothing is to be inserted
+abbrev pub noOrder : Order
+noOrder = record { count = 0; at = 0; word = 0; behind = 0; covers = false; write = startWrite 0 }
+
+-- the start write of word k, in entry k; no view names a position behind 255, so all views stay
+abbrev pub startOrder : ℕ → ℕ → Order
+startOrder k v = record { count = k + 1; at = k; word = k; behind = 255; covers = false; write = startWrite v }
+
+-- the write of entry e before the insertion: covered if that is ordered and the new write goes directly behind it
+unfoldable pub coverAt : Order → ℕ → Write → Write
+coverAt o e w = cond (o .covers) (cond (eqb (o .at) (suc e)) (coveredWrite w) w) w
+
+-- the turn of entry e, which has `old`: before the place it keeps its write, from it on it takes the carried one
 unfoldable pub turnOf : Order → ℕ → Write → Write → Turn
 turnOf o e carried old =
-    cond (ltb e (o .count))
-    (cond (ltb e (o .at))
-    (record { put = upWrite (o .word) (o .behind) old; next = carried })
-    (record { put = carried; next = upWrite (o .word) (o .behind) old }))
-    (record { put = old; next = carried })
+    cond (ltb e (o .at))
+    (record { put = upWrite (o .word) (o .behind) (coverAt o e old); next = carried })
+    (record { put = carried; next = upWrite (o .word) (o .behind) old })
+
+-- how many of n entries are visited: those in use afterwards
+unfoldable pub visits : Order → ℕ → ℕ
+visits o n = cond (ltb (o .count) n) (o .count) n
 
 -- the table and the write carried on, after the turn of entry e
 abbrev pub sweepAt : Order → ℕ → List Write × Write → List Write × Write
@@ -31,24 +44,4 @@ sweepTo o (suc n) l = sweepAt o n (sweepTo o n l)
 
 -- the table after the sweep
 unfoldable pub sweptOf : Order → List Write → List Write
-sweptOf o l = sweepTo o (length l) l .0
-
--- A MACHINE
-
--- one step on values: the write w that was read is to be inserted in front of its own entry
-unfoldable pub stepOf : Run → Write → Run
-stepOf r w =
-    record {
-      at = r .order .at;
-      order = record { count = r .order .count; at = r .at; word = r .order .word; behind = w .value; write = w };
-    }
-
--- one step: an entry is read, and a write is inserted
-abbrev pub stepAt : Write → List Write × Run → List Write × Run
-stepAt none s =
-    (sweptOf (stepOf (s .1) (getD (s .0) (s .1 .at) none) .order) (s .0), stepOf (s .1) (getD (s .0) (s .1 .at) none))
-
--- n steps
-unfoldable pub stepsTo : Write → ℕ → List Write × Run → List Write × Run
-stepsTo none zero s = s
-stepsTo none (suc n) s = stepAt none (stepsTo none n s)
+sweptOf o l = sweepTo o (visits o (length l)) l .0

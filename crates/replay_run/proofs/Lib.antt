@@ -1,0 +1,9 @@
+pub mod TableLies
+pub mod ChangeAgrees
+pub mod WordThere
+pub mod TurnBranches
+pub mod TurnAgrees
+pub mod RunTurns
+pub mod RunAgrees
+pub mod StartAgrees
+pub mod IntoAgrees
