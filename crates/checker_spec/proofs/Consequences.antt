@@ -165,8 +165,12 @@ module _ (image buffer : List ℕ) (code : ℕ) (after : List ℕ) (p : Promise 
         go : ((f : Fault) × (i : ℕ) × (verdict image ≡ Refused f i)) ⊎ SourceJudged image (verdict image) buffer code → ByMeaning
         go (inl (f, i, e)) = inl (f, i, numbers-read ∙ ap fieldsOf e)
         go (inr j) =
-            inr (j .content, j .means s writes, found (j .content) (j .right .finding) (j .right .right) (fieldsIn after)
-            (numbers-read ∙ ap fieldsOf (j .right .answer)))
+            inr (
+              j .content,
+              j .means s writes,
+              found (j .content) (j .right .finding) (j .right .right) (fieldsIn after)
+                  (numbers-read ∙ ap fieldsOf (j .right .answer)),
+            )
 
   -- DEMAND 3: code 0
 
