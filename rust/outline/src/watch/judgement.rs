@@ -42,11 +42,14 @@ pub struct Judged {
     pub diagnosis: Option<Diagnosis>,
 }
 
+/// What a diagnosis is about: the program, its claims, and what is left to show.
+type Asked = (Program, Vec<Meeting>, Vec<Goal>);
+
 /// What the machine said the last time, and of what.
 #[derive(Default)]
 pub struct Past {
     pub memory: Memory,
-    diagnosed: Option<((Program, Vec<Meeting>, Vec<Goal>), Diagnosis)>,
+    diagnosed: Option<(Asked, Diagnosis)>,
 }
 
 impl Judgement {
