@@ -145,6 +145,9 @@ fn proved_table(proved: &[&Example], wrong: &[&Example]) -> String {
 fn beyond_table(beyond: &[&Example]) -> Result<String, String> {
     let mut text = String::from(
         "## True, and beyond the rules\n\n\
+         Each of these is true in every run by theorem, with rules beyond the published ones (`docs/PROPOSALS.md`,\n\
+         `crates/logic_further`): `corr2-run`, `peterson-joint-run` with `never-both-inside`, `rrc-two-writers-run`,\n\
+         `ticket-wait-run`.\n\n\
          | Program | Source | True in every state | Obligations | Lines | Formulas | Bytes | First open obligation | Why |\n\
          |---|---|---|---|---|---|---|---|---|\n",
     );
