@@ -77,7 +77,7 @@ module _ {P : Program} {t : ℕ} (rel swaps : Bool) (x : ℕ) (f : Value) (ns : 
 
   write_value : T (only is_reg f) → (v : View) → value P.range (at P (result write_act) v) f ≡ write_act.n
   unfolding write_act
-  write_value c v = value_agree P.range (regs_same refl) f c
+  write_value c v = value_agree P.range (regs_same {ρ = at P (result write_act) v} {σ = at P s (s.view t)} refl) f c
 
   pub write_wf : Wf P (memory P (write rel swaps x f) t p s)
   unfolding write_act
@@ -129,6 +129,7 @@ module _ {P : Program} {s : State} (d : Insertion P s) (f : Value) (e : Test) (n
 -- 12, 13: once the last write is covered too, a thread that saw C sees covered writes alone
 pub covered : (P : Program) (s : State) (p x : ℕ) → suc p ≡ s.size x → (u : ℕ) → Sees P s u (C x)
     → Sees P (cover_if true x p s) u (box (cov x))
+covered P s p x last u h [] pr = elim pr [ ]
 covered P s p x last u h (v ∷ l) pr = All-map _ _ each (v ∷ l) (from_all s.size (s.view u) (v ∷ l) pr)
   where
     first : (w : View) → w x ≢ p → Sat P.range (at P s) (C x) (w ∷ upd w x p ∷ []) → T (s.row x (w x)).covered
@@ -254,7 +255,7 @@ module _ (P : Program) (t : ℕ) where
     unfolding write_act
     rule_9 rel swaps g c u e no_flag s wf p arr h =
         nine (write_act rel swaps x f [] g wf p arr) f e no_flag (at P s) (cover_same P swaps x p s)
-        (λ v. value_agree P.range (regs_same refl) f c) u h.0 h.1
+        (λ v. value_agree P.range (regs_same {ρ = at P s v} {σ = at P s (s.view t)} refl) f c) u h.0 h.1
 
   -- notes besides: what their registers are not in
   pub with_notes : (A : Touch) (ns : List Note) (a q : Assertion) → T (startless q) → T (only (regs_in (kept ns)) q) → Triple P t A [] a q
@@ -271,7 +272,7 @@ module _ (P : Program) (t : ℕ) where
       (given_true P (finish P A [] t p s) t ns (upd s.point t (suc (s.point t))) (all_All _ ns c) q z (prem s wf p arr h))
     where
       same : (r : ℕ) → worked_at P (finish P A [] t p s) t (noted ns r) ≡ worked_at P s t (noted ns r)
-      same r = value_agree P.range (regs_same refl) (noted ns r) (noted_all (λ f. T (only is_reg f)) (λ r. tt) ns (all_All _ ns c) r)
+      same r = value_agree P.range (regs_same {ρ = at P (finish P A [] t p s) ((finish P A [] t p s).view t)} {σ = at P s (s.view t)} refl) (noted ns r) (noted_all (λ f. T (only is_reg f)) (λ r. tt) ns (all_All _ ns c) r)
 
   -- 48, 49: a swap of n into x with the notes ns, after which F says what n was
   module _ (x : ℕ) (n F : Value) (ns : List Note) (g : Good P (write true true x n) ns)

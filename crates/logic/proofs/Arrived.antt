@@ -81,6 +81,7 @@ module _ {P : Program} {s : State} (wf : Wf P s) (a : Bool) (t x p : ℕ) (ok : 
       above = by_word t _ (λ y. simp upds (read_view_above y)) (λ u q y. simp upds (omega arith))
 
       lower : (u : ℕ) (l : List View) → Prospect s.size (upd s.view t v u) l → Prospect s.size (s.view u) l
+      lower u [] pr = elim pr [ ]
       lower u (w ∷ l) pr = (pr.0, (λ y. omega (arith, above u y, pr.1 y)), pr.2)
 
   -- a load of x, or the same for a store and a swap
@@ -114,6 +115,7 @@ module _ {P : Program} {s : State} (wf : Wf P s) where
 
   pub head_off : (t : ℕ) (e : Test) (i : Interval) → test P.range (at P s (s.view t)) e ≡ false → Sees P s t (chop (box e) i)
       → Sees P s t i
+  head_off t e i no-e h [] pr = elim pr [ ]
   head_off t e i no-e h (v ∷ l) pr =
       sat_drop P.range (at P s) i 1 (s.view t ∷ v ∷ l)
       (cut_first (at P s) e i (s.view t) (v ∷ l) no-e (h (s.view t ∷ v ∷ l) (wf.view_in t, (λ y. omega arith), pr)))

@@ -68,12 +68,14 @@ module _ {P : Program} {s : State} (d : Insertion P s) (last : suc d.p ≡ s.siz
 
     -- 6, 11
     pub last_own : Sees P (result d) d.t (newest d.x f)
+    last_own [] g = elim g [ ]
     last_own (v ∷ l) g =
         new_part (v ∷ l) (All-map _ _ (λ w h. omega (arith, simp upds at (h.0 d.x), simp upds at (h.1 d.x))) (v ∷ l)
         (from_all (result d).size ((result d).view d.t) (v ∷ l) g))
 
     -- 7, 12
     pub last_other : (u : ℕ) (i : Interval) → Sees P s u i → Sees P (result d) u (chop i (newest d.x f))
+    last_other u i h [] g = elim g [ ]
     last_other u i h (v ∷ l) g =
         let c = cut_new ((result d).view u) (v ∷ l) g in (
           c.0,
@@ -107,6 +109,7 @@ module _ {P : Program} {s : State} (d : Insertion P s) (last : suc d.p ≡ s.siz
 
     -- 8, 13
     pub last_sync : (u : ℕ) (i : Interval) → Sees P s u i → Sees P (result d) u (chop i (chop (box (unsync d.x)) j))
+    last_sync u i k [] g = elim g [ ]
     last_sync u i k (v ∷ l) g =
         let c = cut_new ((result d).view u) (v ∷ l) g in (
           c.0,

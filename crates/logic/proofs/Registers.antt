@@ -95,7 +95,7 @@ module _ (P : Program) (s : State) (t : ℕ) (ns : List Note) where
       q z (only_any (names q)) (replaced P (notes ns) q (world P s) (true_world P s (replace (notes ns) q) h))
     where
       anywhere : (ρ : Env) → ρ.reg ≡ s.reg → (r : ℕ) → value P.range ρ (noted ns r) ≡ given r
-      anywhere ρ e r = value_agree P.range (regs_same e) (noted ns r) (noted_all (λ f. T (only is_reg f)) (λ r. tt) ns plain r)
+      anywhere ρ e r = value_agree P.range (regs_same {ρ = ρ} {σ = at P s (s.view t)} e) (noted ns r) (noted_all (λ f. T (only is_reg f)) (λ r. tt) ns plain r)
 
   -- 3: a test of registers after is the test with the registers replaced, where the thread is
   pub given_test : (e : Test) → T (only is_reg e) → test P.range (at P s (s.view t)) (replace (notes ns) e) ≡ test P.range

@@ -122,6 +122,7 @@ module _ {P : Program} {s : State} (wf : Wf P s) where
   small_held = record { reg = wf.reg_small; word = λ x. omega (arith, wf.reg_small 0) }
 
   small_all : (t : ℕ) (l : List View) → Prospect s.size (s.view t) l → All (λ v. Small P.range (at P s v)) l
+  small_all t [] pr = elim pr [ ]
   small_all t (v ∷ l) pr = All-map _ _ (λ w h. small_at w h.0) (v ∷ l) (from_all s.size (s.view t) (v ∷ l) pr)
 
   -- a test of registers is the same at every view
@@ -310,6 +311,7 @@ module _ (P : Program) where
 
   -- 26
   start_sees : (s : State) → Start P s → (t x : ℕ) → Sees P s t (newest x (const (P.init x)))
+  start_sees s st t x [] pr = elim pr [ ]
   start_sees s st t x (v ∷ l) pr =
       let zeros : All (λ (w : View). w x ≡ 0) (v ∷ l) =
       All-map _ _ (λ w h. omega (arith, h.0 x, st.one_write x)) (v ∷ l) (from_all s.size (s.view t) (v ∷ l) pr) in (

@@ -119,6 +119,7 @@ module _ (s : State) (t : ℕ) (h : Small s t) where
 -- of a prospect: each view names writes that are there, none before the thread's
 each_view : (size : ℕ → ℕ) (a : View) (l : List View) → Prospect size a l
     → From size a l × All (λ w. Names size w × ((y : ℕ) → a y ≤ w y)) l
+each_view size a [] h = elim h [ ]
 each_view size a (v ∷ l) h = (h, from_all size a (v ∷ l) h)
 
 -- a list of one view cut in two; of two views

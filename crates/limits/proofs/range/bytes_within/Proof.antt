@@ -7,10 +7,10 @@ use Rattle.limits.proofs.BranchTests.{tests}
 use Rattle.limits.proofs.range.bytes_within.Statement.{statement}
 use Rattle.limits.proofs.range.bytes_within.Tie as tie
 
-abbrev invariant-loop : tie.invariant-loop
+abbrev invariant-loop : tie.invariant-loop-i
 invariant-loop s low high i₀ i = (i ≤ length s) × (every (within low high) s ≡ every (within low high) (drop i s))
 
-abbrev decreases-loop : tie.decreases-loop
+abbrev decreases-loop : tie.decreases-loop-i
 decreases-loop s low high i₀ i = length s - i
 
 pub bytes_within_spec : {M : Type 1} → statement M

@@ -7,10 +7,10 @@ use Rattle.limits.proofs.BranchTests.{tests}
 use Rattle.limits.proofs.range.numbers_within.Statement.{statement}
 use Rattle.limits.proofs.range.numbers_within.Tie as tie
 
-abbrev invariant-loop : tie.invariant-loop
+abbrev invariant-loop : tie.invariant-loop-i
 invariant-loop s n low high i₀ i = (i ≤ n) × (every (within low high) (numbers n s) ≡ every (within low high) (drop i (numbers n s)))
 
-abbrev decreases-loop : tie.decreases-loop
+abbrev decreases-loop : tie.decreases-loop-i
 decreases-loop s n low high i₀ i = n - i
 
 pub numbers_within_spec : {M : Type 1} → statement M
