@@ -7,11 +7,11 @@ use Rattle.limits.proofs.BranchTests.{tests}
 use Rattle.image_frames.proofs.walk.walk_frames.Statement.{statement}
 use Rattle.image_frames.proofs.walk.walk_frames.Tie as tie
 
-abbrev invariant-loop : tie.invariant-loop
+abbrev invariant-loop : tie.invariant-loop-at
 invariant-loop s c₀ at₀ i₀ c at i = (1 ≤ i) × ((i ≤ at + 1)
     × ((at ≤ length s) × ((frames s ≡ walk (length s + 1 - i) i c (drop at s)) × (length c.count ≡ 8))))
 
-abbrev decreases-loop : tie.decreases-loop
+abbrev decreases-loop : tie.decreases-loop-at
 decreases-loop s c₀ at₀ i₀ c at i = length s - at
 
 pub walk_frames_spec : {M : Type 1} → statement M
