@@ -6,7 +6,6 @@ use mathlib.Core.Bool.{Bool, true, false, cond}
 use native.Mathlib.Omega.{arith}
 use lib.Dec.{T, ltb, eqb}
 use borrow.Author.Tests.{ltb-true, ltb-false, ne_eqb}
-use Rattle.semantics.specs.Code
 use Rattle.semantics.specs.Code.{Code, byte}
 use Rattle.logic.specs.Rows.{all_below}
 use Rattle.logic.proofs.Rows.{all_below_at}

@@ -1,6 +1,5 @@
 -- What a formula's code alone determines: where it fits, its operand, its parts.
 use Rattle.std.specs.Prelude.{ℕ, ◌+◌, ◌-◌, ◌/◌, ◌%◌, ◌^◌, Bool, true, false, cond, List, [], ◌∷◌, ltb, eqb}
-use Rattle.semantics.specs.Code
 use Rattle.semantics.specs.Code.{Code, byte}
 
 -- c is the byte of one of these codes

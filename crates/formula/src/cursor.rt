@@ -5,7 +5,7 @@ ghost use Rattle.formula.specs.Reader.{reading_from};
 use crate::reader::{Counts, Reading, read_record};
 
 // A part of the image, borrowed, and a position in it.
-#[derive(Drop)]
+#[derive(Clone, Copy)]
 pub struct Cursor<'a> {
     pub src: &'a [u8],
     pub at: usize,

@@ -6,7 +6,7 @@ use crate::code::{has_operand, parts};
 use limits::read::u8_at;
 
 // A node: its code and operand (0 where it has none), the number of its parts, and the position past its own bytes.
-#[derive(Drop)]
+#[derive(Clone, Copy)]
 pub struct Node {
     pub code: u8,
     pub operand: u8,

@@ -7,7 +7,7 @@ use crate::cursor::Cursor;
 use limits::Limits;
 
 // The numbers of threads, words, registers and values, which bound the operands of a formula.
-#[derive(Drop)]
+#[derive(Clone, Copy)]
 pub struct Counts {
     pub threads: u8,
     pub words: u8,
@@ -110,7 +110,7 @@ pub fn read_at(image: &[u8], at: usize, left: usize, place: u8, counts: Counts) 
 }
 
 // The result of reading a body: a formula with its sort, which is a place, or a fault.
-#[derive(Drop)]
+#[derive(Clone, Copy)]
 pub enum Reading {
     Formula(u8),
     Fault(usize),
