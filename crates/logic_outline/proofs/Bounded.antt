@@ -2,7 +2,6 @@
 use mathlib.Core.Bool.{Bool, ◌&&◌}
 use Prim.Native.Nat.{ℕ}
 use Rattle.semantics.specs.Eval.{bounded}
-use Rattle.logic.specs.Statement
 use Rattle.logic.specs.Statement.{Statement}
 
 -- the constants of its formulas are values
