@@ -1,20 +1,20 @@
 -- A certificate that passes its test derives the obligations; so a program with one is true to its outline in every run.
 use mathlib.Core.Path.{◌≡◌, refl, sym, subst}
-use mathlib.Core.Bool.{Bool, true, false, ◌&&◌}
+use mathlib.Core.Bool.{Bool, true, false}
 use mathlib.Core.List.{List, [], ◌∷◌, map}
-use Prim.Native.Nat.{ℕ, zero, suc, ◌-◌, ◌≤◌, ◌<◌}
+use Prim.Native.Nat.{ℕ, zero, suc, ◌-◌, ◌<◌}
 use native.Mathlib.Omega.{arith}
-use lib.Dec.{T, ltb, leb, ltb→lt, leb→le}
+use lib.Dec.{T, ltb, ltb→lt, leb→le}
 use lib.ListN.{length, get_or}
 use Rattle.semantics.specs.Base.{All, all, Within, below, up_to}
 use Rattle.semantics.specs.Names.{startless}
 use Rattle.semantics.specs.Machine.{Program}
 use Rattle.semantics.specs.EveryRun.{Outline, EveryRun}
-use Rattle.logic.specs.Statement.{Statement, inside, admitted}
+use Rattle.logic.specs.Statement.{Statement}
 use Rattle.logic.specs.Obligations.{Obligation, obligations, wants}
 use Rattle.logic.specs.WellFormed.{proper, WellFormed}
 use Rattle.logic.specs.Claims.{Claim, NeverBoth, threads_in, claims}
-use Rattle.logic_schemas.specs.Fits.{fits, same_statement, same_all}
+use Rattle.logic_schemas.specs.Fits.{same_all}
 use Rattle.semantics.proofs.Base.{and_left, and_right, all_All, is_true}
 use Rattle.logic.proofs.Runs.{below_in, up_in}
 use Rattle.logic_schemas.proofs.Fit.{statement_eq}

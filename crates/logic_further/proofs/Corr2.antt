@@ -2,7 +2,6 @@
 use mathlib.Core.Path.{refl}
 use mathlib.Core.List.{List, [], ◌∷◌}
 use Prim.Native.Nat.{ℕ}
-use lib.Dec.{T}
 use Rattle.semantics.specs.Formula.{Formula, Assertion, Interval, Formula.const, Formula.reg, Formula.word, Formula.equal, Formula.and, Formula.or, Formula.box, Formula.one, Formula.chop, Formula.both, Formula.either, Formula.sees, Formula.both_a, Formula.either_a, Formula.start, Formula.holds}
 use Rattle.semantics.specs.EveryRun.{EveryRun}
 use Rattle.semantics.specs.Formula.{same}

@@ -10,10 +10,10 @@ use borrow.Author.Tests.{eqb-true, eqb-false}
 use lib.ListN.{take, drop, length}
 use Rattle.semantics.specs.Base.{All}
 use Rattle.semantics.specs.Eval.{Env, test}
-use Rattle.semantics.specs.Formula.{Test, Interval, Formula.box, Formula.one, Formula.chop, Formula.both, Formula.either}
+use Rattle.semantics.specs.Formula.{Interval, Formula.box, Formula.one, Formula.chop, Formula.both, Formula.either}
 use Rattle.semantics.specs.Machine.{View}
 use Rattle.semantics.specs.Truth.{Sat}
-use Rattle.semantics.proofs.Base.{by_word, is_true}
+use Rattle.semantics.proofs.Base.{by_word}
 use Rattle.logic.proofs.Intervals.{sat_empty}
 
 -- A, or not A

@@ -9,9 +9,8 @@ use lib.Dec.{T, eqb, ltb}
 use borrow.Author.Tests.{eqb-true, ltb-true, ltb-false}
 use lib.ListN.{take, drop}
 use Rattle.semantics.specs.Base.{All, upd}
-use Rattle.semantics.specs.Eval.{test}
-use Rattle.semantics.specs.Formula.{Test, Interval, Formula.box, Formula.one, Formula.chop, Formula.both, Formula.either}
-use Rattle.semantics.specs.Machine.{View, State, Program, Write, at}
+use Rattle.semantics.specs.Formula.{Interval, Formula.box, Formula.one, Formula.chop, Formula.both, Formula.either}
+use Rattle.semantics.specs.Machine.{View, State, Program, at}
 use Rattle.semantics.specs.Names.{Name, n_reg, n_word, n_unsync, n_cov, only}
 use Rattle.semantics.specs.Truth.{Sat, From, Prospect, Sees}
 use Rattle.semantics.proofs.Base.{upds, upd_same, by_word, and_left, holds_true, all_left, all_right, map_or}
@@ -146,6 +145,7 @@ module _ (x : ℕ) where
             (by_word x _ (simp upds (omega arith)) (λ y q. simp upds (omega arith))) c
 
     seen : (i : Interval) → T (only (along x) i) → Sat P.range (at P s) i (climb (s.view u) (s.view u x) steps) → Sees P s u i
+    seen i k h [] pr = elim pr [ ]
     seen i k h (w ∷ l) pr =
         spread (s.view u) P s i k (s.view u x) steps (s.view u x) (s.size x) (omega arith) (omega (arith, wf.view_in u x)) h (w ∷ l)
         (rising s.size (s.view u) (w ∷ l) pr)

@@ -10,8 +10,8 @@ use borrow.Author.Tests.{ltb-true, ltb-false, leb-true, leb-false}
 use lib.ListN.{take, drop, length, take-append-drop}
 use lib.Seq.{drop-drop, take-append_seam, drop-append_seam, take-take}
 use Rattle.semantics.specs.Base.{All, upd}
-use Rattle.semantics.specs.Eval.{Env, value, test}
-use Rattle.semantics.specs.Formula.{Value, Interval, Formula.word, Formula.equal, Formula.box, Formula.one, Formula.chop, Formula.both, Formula.either, Formula.sees}
+use Rattle.semantics.specs.Eval.{Env, value}
+use Rattle.semantics.specs.Formula.{Value, Interval, Formula.box, Formula.one, Formula.chop, Formula.both, Formula.either, Formula.sees}
 use Rattle.semantics.specs.Machine.{View, State, Write, Program, at, up, down, up_view, move_to, insert, with_view}
 use Rattle.semantics.specs.Names.{names, only, is_reg}
 use Rattle.semantics.specs.Truth.{Sat, From, Prospect, Names, Sees}
@@ -22,7 +22,7 @@ use Rattle.semantics.proofs.Invariant.{Wf, view_wf}
 use Rattle.semantics.proofs.Prospects.{from_all, from_drop}
 use Rattle.logic.specs.Inference.{newest}
 use Rattle.logic.proofs.Agreement.{Agree, All-back, test_agree, value_agree, only_any, take_map, drop_map}
-use Rattle.logic.proofs.Arrived.{Arrived, Triple, Here, sees_last}
+use Rattle.logic.proofs.Arrived.{Arrived, Triple, sees_last}
 use Rattle.logic.proofs.Inserted.{Insertion, result, old, row_new, result_same, result_prospect}
 use Rattle.logic.proofs.Intervals.{sat_empty, sat_take, sat_drop, rule_36}
 use Rattle.logic.proofs.Last.{last_other}
@@ -144,6 +144,7 @@ module _ (size : ℕ → ℕ) where
   to_prospect b (v ∷ a) c e h = h
 
   to_from : (b : View) (l : List View) → Prospect size b l → From size b l
+  to_from b [] h = elim h [ ]
   to_from b (v ∷ l) h = h
 
 -- A WRITE INSERTED
@@ -243,6 +244,7 @@ module _ {P : Program} {s : State} (d : Insertion P s) where
       -- 55, of the acting thread itself
       pub lands_own : Sees P s d.t first_then → (l : List View) → Prospect (result d).size ((result d).view d.t) l
           → Sat P.range (at P (result d)) (chop i (chop (newest d.x f) j)) l
+      lands_own h [] pr = elim pr [ ]
       lands_own h (v ∷ l) pr =
           let c = cut_at (result d).size d.x (suc (suc d.p)) ((result d).view d.t) (v ∷ l) pr in
           let after = from_all (result d).size ((result d).view d.t) (v ∷ l) pr in (
@@ -311,6 +313,7 @@ module _ {P : Program} {s : State} (d : Insertion P s) where
 
       pub lands_other : (l' : Interval) (u : ℕ) → Sees P s u first_then → Later l'
           → Sees P (result d) u (either (chop i (chop (newest d.x f) j)) (chop i l'))
+      lands_other l' u h later [] pr = elim pr [ ]
       lands_other l' u h later (v ∷ l) pr =
           let c = cut_at (result d).size d.x (suc d.p) ((result d).view u) (v ∷ l) pr in
           go c.0 c.1 c.2 (longest P.range (at P s) (both i (one d.x)) (old d) (take c.0 (v ∷ l)))
@@ -348,7 +351,7 @@ module _ (P : Program) (t x u : ℕ) (rel : Bool) (f : Value) (g : Good P (write
     }
 
     stored_value : (v : View) → value P.range (at P (result stored) v) f ≡ worked_at P s t f
-    stored_value v = value_agree P.range (regs_same refl) f plain
+    stored_value v = value_agree P.range (regs_same {ρ = at P (result stored) v} {σ = at P s (s.view t)} refl) f plain
 
   pub rule_54 : (i : Interval) → Triple P t (write rel false x f) [] (sees u (both (one x) i)) (sees u (chop i (newest x f)))
   rule_54 i s wf p arr h = lands_behind (stored wf p arr) f (stored_value wf p arr) u i h
@@ -383,6 +386,7 @@ module _ (P : Program) (t x u : ℕ) (rel : Bool) (f : Value) (g : Good P (write
               false_true q = subst T (sym q) tt
 
           every_there : Sees P (with_view s u (old (stored wf p arr) c)) u j
+          every_there [] pr = elim pr [ ]
           every_there (w ∷ z) pr = every (w ∷ z) (subst (λ (y : View). From s.size y (w ∷ z)) (upd_same s.view u (old (stored wf p arr) c)) pr)
 
           below : (y : ℕ) → upd (λ a. up_view x p (upd s.view u (old (stored wf p arr) c) a)) t

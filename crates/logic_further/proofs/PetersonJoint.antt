@@ -1,5 +1,4 @@
 -- Peterson's algorithm: what both threads see together excludes that both are inside.
-use mathlib.Core.Path.{refl}
 use mathlib.Core.List.{List, [], ◌∷◌}
 use Prim.Native.Nat.{ℕ}
 use lib.Dec.{T, leb→le}

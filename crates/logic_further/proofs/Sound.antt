@@ -1,6 +1,5 @@
 -- Each further rule is sound against the machine; so what both sets of rules derive is valid, and outlines so proved are true in every run.
-use mathlib.Core.Path.{◌≡◌, subst}
-use mathlib.Core.Bool.{Bool, true, false}
+use mathlib.Core.Path.{subst}
 use mathlib.Core.List.{List, [], ◌∷◌}
 use mathlib.Core.Logic.{◌⊎◌, inl, inr}
 use Prim.Native.Nat.{ℕ, suc, ◌<◌}
@@ -8,18 +7,16 @@ use native.Mathlib.Omega.{arith}
 use lib.Dec.{T}
 use lib.ListN.{length, get_or}
 use Rattle.semantics.specs.Base.{All, Within}
-use Rattle.semantics.specs.Formula.{Value, Test, Interval, Formula.chop, Formula.box, Formula.both, Formula.either, Formula.holds}
 use Rattle.semantics.specs.Machine
 use Rattle.semantics.specs.Machine.{View, Program, Mode.store, Mode.exchange, Mode.fetch_add}
 use Rattle.semantics.specs.EveryRun.{Outline, EveryRun}
 use Rattle.semantics.specs.Truth.{Sat}
-use Rattle.logic.specs.Statement.{Statement, inside, implies, triple, admitted}
+use Rattle.logic.specs.Statement.{Statement, admitted}
 use Rattle.logic.specs.WellFormed.{proper, WellFormed}
 use Rattle.logic.specs.Claims.{Claim, NeverBoth, threads_in, claims}
-use Rattle.semantics.proofs.Base.{and_left, and_right}
+use Rattle.semantics.proofs.Base.{and_right}
 use Rattle.logic.proofs.Sound.{Valid, sound, its_proper, its_good, written}
 use Rattle.logic.proofs.Runs.{every_run_by, never_both_by}
-use Rattle.logic_further.specs.Further
 use Rattle.logic_further.specs.Further.{FurtherRule, Further}
 use Rattle.logic_further.specs.Union.{DerivedFurther, by_published, by_further, ProvedFurther}
 use Rattle.logic_further.proofs.Emptied.{none_behind, none_before}

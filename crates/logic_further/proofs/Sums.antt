@@ -1,13 +1,12 @@
 -- Rules 51 and 52: rule 9 for exchange and for fetch-add.
 use mathlib.Core.Path.{◌≡◌, refl, ap, sym, ◌∙◌, subst}
-use mathlib.Core.Bool.{Bool, true, not, ◌&&◌}
+use mathlib.Core.Bool.{true, not}
 use mathlib.Core.List.{List, [], ◌∷◌, map}
-use mathlib.Core.Logic.{◌≢◌}
 use Prim.Native.Nat.{ℕ, suc}
 use native.Mathlib.Omega.{arith}
 use lib.Dec.{T, eqb}
 use borrow.Author.Tests.{eqb-true}
-use Rattle.semantics.specs.Base.{All, all}
+use Rattle.semantics.specs.Base.{All}
 use Rattle.semantics.specs.Eval.{Env, value, test}
 use Rattle.semantics.specs.Formula.{Value, Test, Assertion, Formula.word, Formula.sum, Formula.cov, Formula.box, Formula.chop, Formula.sees, Formula.both_a}
 use Rattle.semantics.specs.Machine.{View, State, Write, Program, at}
@@ -17,13 +16,12 @@ use Rattle.semantics.specs.Truth.{Sees}
 use Rattle.semantics.proofs.Base.{upd_same, by_word, and_left, and_right, and_both, holds_true}
 use Rattle.semantics.proofs.Halves
 use Rattle.semantics.proofs.Halves.{Touch.write, into, worked_at, Good, cover_if}
-use Rattle.semantics.proofs.Invariant.{Wf}
 use Rattle.logic.proofs.Agreement.{Same, same_trans, test_agree}
 use Rattle.logic.proofs.Actions.{all_weaken, cover_same, write_act, with_notes, rule_9}
-use Rattle.logic.proofs.Arrived.{Arrived, Triple, head_off, bare}
+use Rattle.logic.proofs.Arrived.{Triple, head_off, bare}
 use Rattle.logic.proofs.Inserted.{Insertion, result, old, row_new, result_same, result_prospect}
 use Rattle.logic.proofs.Replacement.{replaced, under}
-use Rattle.logic_further.specs.Further.{along, steady_exchange, steady_add}
+use Rattle.logic_further.specs.Further.{steady_exchange, steady_add}
 
 -- what lacks the result register is not given a value
 lacks_given : (r x : ℕ) (n : Name) → T (not_reg r n) → T (regs_in (Halves.kept (into r x [])) n)

@@ -1,12 +1,11 @@
 -- Rule 53: the view of the last writes is a prospect of every thread.
-use mathlib.Core.Path.{◌≡◌, refl, ap, sym, subst}
+use mathlib.Core.Path.{subst}
 use mathlib.Core.Bool.{Bool, true, false, ◌||◌}
 use mathlib.Core.List.{List, [], ◌∷◌}
 use mathlib.Core.Logic.{inl, inr}
 use Prim.Native.Nat.{ℕ, zero, suc, ◌-◌, ◌<◌}
 use native.Mathlib.Omega.{arith}
 use lib.Dec.{T}
-use lib.ListN.{take}
 use lib.Seq.{take-nil}
 use Rattle.semantics.specs.Eval.{Env, test, on_regs}
 use Rattle.semantics.specs.Formula.{Test, Interval, Formula.and, Formula.box, Formula.one, Formula.chop, Formula.both, Formula.either}

@@ -1,7 +1,7 @@
 -- Small programs with their outlines, written as lists.
 use Rattle.std.specs.Prelude.{Bool, true, ◌&&◌, List, [], ◌∷◌, ℕ, zero, suc, ◌-◌, ltb, length}
 use Rattle.semantics.specs.Base.{all, below, up_to}
-use Rattle.semantics.specs.Formula.{Formula, Assertion, Formula.const, Formula.holds}
+use Rattle.semantics.specs.Formula.{Formula, Assertion, Formula.holds}
 use Rattle.semantics.specs.Names.{startless}
 use Rattle.semantics.specs.Machine.{Program, Access.none, Instr, Instr.act}
 use Rattle.semantics.specs.EveryRun.{Outline}

@@ -1,5 +1,5 @@
 -- Derivations by the published and the further rules together.
-use Rattle.std.specs.Prelude.{List, ◌⊎◌, ℕ, ◌<◌, T, length, get_or}
+use Rattle.std.specs.Prelude.{List, ℕ, ◌<◌, T, length, get_or}
 use Rattle.semantics.specs.Base.{All}
 use Rattle.semantics.specs.Machine.{Program}
 use Rattle.semantics.specs.EveryRun.{Outline}
