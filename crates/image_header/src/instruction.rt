@@ -7,7 +7,7 @@ use limits::range::in_range;
 use limits::read::{rest, u8_at, u16_at};
 
 // The five bytes of a second half: an assignment that is made in the same step as the first half.
-#[derive(Drop)]
+#[derive(Clone, Copy)]
 pub struct Half {
     pub operation: u8,
     pub a: u8,
@@ -24,7 +24,7 @@ pub const NO_HALF: Half = Half {
 };
 
 // An instruction as the image has it; operations without a second half have NO_HALF.
-#[derive(Drop)]
+#[derive(Clone, Copy)]
 pub struct Instruction {
     pub operation: u8,
     pub a: u8,
@@ -85,14 +85,14 @@ pub const NOTHING: Instruction = Instruction {
 };
 
 // The range of a field, both ends included.
-#[derive(Drop)]
+#[derive(Clone, Copy)]
 pub struct Range {
     pub low: usize,
     pub high: usize,
 }
 
 // The range of each field of an instruction.
-#[derive(Drop)]
+#[derive(Clone, Copy)]
 pub struct Fields {
     pub a: Range,
     pub b: Range,

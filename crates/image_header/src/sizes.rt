@@ -1,5 +1,5 @@
 // The counts of an image: threads, words and registers, the value range, and the records of each kind that may repeat.
-#[derive(Drop)]
+#[derive(Clone, Copy)]
 pub struct Sizes {
     pub threads: u8,
     pub words: u8,

@@ -6,10 +6,10 @@ use mathlib.Core.Path.{◌≡◌}
 use Rattle.image_header.proofs.thread.begins_at.Statement.{statement}
 use Rattle.image_header.proofs.thread.begins_at.Tie as tie
 
-abbrev invariant-loop : tie.invariant-loop
+abbrev invariant-loop : tie.invariant-loop-i
 invariant-loop l p at₀ i₀ at i = (p < 256) × ((i ≤ p) × ((at ≡ begins l i) × (at ≤ 10 * i)))
 
-abbrev decreases-loop : tie.decreases-loop
+abbrev decreases-loop : tie.decreases-loop-i
 decreases-loop l p at₀ i₀ at i = p - i
 
 pub begins_at_spec : {M : Type 1} → statement M

@@ -10,7 +10,7 @@ use Rattle.limits.proofs.BranchTests.{tests}
 use Rattle.image_header.proofs.thread.instructions_fit.Statement.{statement}
 use Rattle.image_header.proofs.thread.instructions_fit.Tie as tie
 
-abbrev invariant-loop : tie.invariant-loop
+abbrev invariant-loop : tie.invariant-loop-p
 invariant-loop b z last at₀ p₀ at p = (last ≡ last_point b)
     ×
     ((last < 256)
@@ -18,7 +18,7 @@ invariant-loop b z last at₀ p₀ at p = (last ≡ last_point b)
     ((p ≤ last)
     × ((at ≡ begins (drop 1 b) p) × (every (ranged (last_point b) z) (instructions b) ≡ every (ranged last z) (drop p (instructions b))))))
 
-abbrev decreases-loop : tie.decreases-loop
+abbrev decreases-loop : tie.decreases-loop-p
 decreases-loop b z last at₀ p₀ at p = last - p
 
 pub instructions_fit_spec : {M : Type 1} → statement M
