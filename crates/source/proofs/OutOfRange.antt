@@ -10,7 +10,7 @@ use Rattle.limits.specs.Numbers.{nth}
 use Rattle.source.specs.Source.{Listed, Instruction, Instruction.assign, Instruction.store, Instruction.branch, Instruction.exchange, Point, Claimed, Source}
 use Rattle.source.specs.Prefix.{nodes}
 use Rattle.source.specs.Written.{assertions}
-use Rattle.source.specs.Meaning.{as_value, as_test, as_assertion, listed, value, test, assertion, thread_at, claims_of}
+use Rattle.source.specs.Meaning.{as_value, as_assertion, listed, value, assertion, thread_at, claims_of}
 use Rattle.source.specs.InRange.{Proper, InRange}
 
 -- a formula with its sort
