@@ -1,4 +1,6 @@
 // Comparisons of formulas in an image, in place: equality, substitution, and what occurs in a formula.
+#![tactic(auto)]
+
 pub mod replace;
 pub mod same;
 

@@ -9,7 +9,7 @@ use limits::read::u8_at;
 
 // What is looked for: nodes with one of some codes, whose operand is anything, is `number`, or is a register that thread `number` does
 // not own.
-#[derive(Drop)]
+#[derive(Clone, Copy)]
 pub struct Query {
     pub codes: u32,
     pub operand: u8,
@@ -29,7 +29,7 @@ impl Operand {
 }
 
 // The result of a search: found; or not, with the position past the formula.
-#[derive(Drop)]
+#[derive(Clone, Copy)]
 pub enum Found {
     Yes,
     No(usize),

@@ -10,14 +10,14 @@ use formula::code::Code;
 use formula::node::{Node, node_at};
 
 // What a name is replaced by: the formula at a position, nested at most this deep, or a word's value.
-#[derive(Drop)]
+#[derive(Clone, Copy)]
 pub enum Replacing {
     Formula(usize, usize),
     Word(u8),
 }
 
 // A substitution: one name, a word's value or a register, by its number; if `two`, the register `second` besides.
-#[derive(Drop)]
+#[derive(Clone, Copy)]
 pub struct Substitution {
     pub word: bool,
     pub number: u8,
@@ -28,7 +28,7 @@ pub struct Substitution {
 }
 
 // A node under a substitution: a replaced name, with the position past it and what replaces it; or any other node.
-#[derive(Drop)]
+#[derive(Clone, Copy)]
 pub enum Hit {
     Name(usize, Replacing),
     Other,

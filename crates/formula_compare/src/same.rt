@@ -6,7 +6,7 @@ ghost use Rattle.formula_compare.specs.Same.{pair_of, pair_at, same_of};
 use formula::node::{Node, node_at};
 
 // Two nodes compared: they differ; or they are equal with no, one or two parts, and the positions past their own bytes.
-#[derive(Drop)]
+#[derive(Clone, Copy)]
 pub enum Pair {
     Differ,
     Ended(usize, usize),
@@ -15,7 +15,7 @@ pub enum Pair {
 }
 
 // Whether two formulas are equal, and the positions past them if they are.
-#[derive(Drop)]
+#[derive(Clone, Copy)]
 pub enum Same {
     Yes(usize, usize),
     No,
