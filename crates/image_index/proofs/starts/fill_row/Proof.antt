@@ -9,12 +9,12 @@ use Rattle.image_index.proofs.IndexBranches.{fill_row_branches, row_none, row_mo
 use Rattle.image_index.proofs.starts.fill_row.Statement.{statement}
 use Rattle.image_index.proofs.starts.fill_row.Tie as tie
 
-abbrev invariant-loop : tie.invariant-loop
+abbrev invariant-loop : tie.invariant-loop-p
 invariant-loop b ix₀ from n at₀ p₀ ix at p =
     (n ≡ min 16 (last_point b)) ×
     ((n ≤ 16) × ((from + 16 ≤ length ix₀) × ((p ≤ n) × ((at ≡ begins (drop 1 b) p) × (ix ≡ row_to ix₀ from b p)))))
 
-abbrev decreases-loop : tie.decreases-loop
+abbrev decreases-loop : tie.decreases-loop-p
 decreases-loop b ix₀ from n at₀ p₀ ix at p = n - p
 
 pub fill_row_spec : {M : Type 1} → statement M

@@ -7,11 +7,11 @@ use Rattle.image_index.proofs.IndexBranches.{rows_same, rows_none, behind_none, 
 use Rattle.image_index.proofs.starts.fill_rows.Statement.{statement}
 use Rattle.image_index.proofs.starts.fill_rows.Tie as tie
 
-abbrev invariant-loop : tie.invariant-loop
+abbrev invariant-loop : tie.invariant-loop-j
 invariant-loop s ix₀ from position q₀ j₀ ix q j =
     (from + 64 ≤ length ix₀) × ((j ≤ 4) × ((q ≡ behind s position j) × (ix ≡ rows_to s ix₀ from position j)))
 
-abbrev decreases-loop : tie.decreases-loop
+abbrev decreases-loop : tie.decreases-loop-j
 decreases-loop s ix₀ from position q₀ j₀ ix q j = 4 - j
 
 pub fill_rows_spec : {M : Type 1} → statement M

@@ -6,10 +6,10 @@ use Rattle.image_index.proofs.IndexBranches.{first_start, first_ended, first_fou
 use Rattle.image_index.proofs.starts.first_thread.Statement.{statement}
 use Rattle.image_index.proofs.starts.first_thread.Tie as tie
 
-abbrev invariant-loop : tie.invariant-loop
+abbrev invariant-loop : tie.invariant-loop-i
 invariant-loop s n p₀ i₀ p i = (i ≤ n) × (first_from s 0 0 n ≡ first_from s i p (n - i))
 
-abbrev decreases-loop : tie.decreases-loop
+abbrev decreases-loop : tie.decreases-loop-i
 decreases-loop s n p₀ i₀ p i = n - i
 
 pub first_thread_spec : {M : Type 1} → statement M

@@ -9,12 +9,12 @@ use Rattle.image_index.proofs.IndexBranches.{fill_records_branches, room_most, s
 use Rattle.image_index.proofs.table.fill_records.Statement.{statement}
 use Rattle.image_index.proofs.table.fill_records.Tie as tie
 
-abbrev invariant-loop : tie.invariant-loop
+abbrev invariant-loop : tie.invariant-loop-i
 invariant-loop s ix₀ n p₀ i₀ ix p i =
     (n ≡ room s) ×
     ((n ≤ 4523) × ((i ≤ n) × ((p ≡ start_of s i) × ((ix ≡ records_to s i) × ((length ix ≡ table_size s) × (length ix ≡ length ix₀))))))
 
-abbrev decreases-loop : tie.decreases-loop
+abbrev decreases-loop : tie.decreases-loop-i
 decreases-loop s ix₀ n p₀ i₀ ix p i = n - i
 
 pub fill_records_spec : {M : Type 1} → statement M
