@@ -89,7 +89,7 @@ const_leaf = record {
   counted = λ n o. refl;
   eighth = refl;
   parts = refl;
-  fits = λ r o h. elim r [ true ↦ refl | false ↦ refl ];
+  fits = λ r o h. elim r as (λ k. fits_at (byte Code.const) (place k Sort.value) ≡ true) [ true ↦ refl | false ↦ refl ];
 }
 
 abbrev pub reg_leaf : Leaf (byte Code.reg) Sort.value
@@ -102,7 +102,7 @@ reg_leaf = record {
   counted = λ n o. from_one n.registers o;
   eighth = refl;
   parts = refl;
-  fits = λ r o h. elim r [ true ↦ refl | false ↦ refl ];
+  fits = λ r o h. elim r as (λ k. fits_at (byte Code.reg) (place k Sort.value) ≡ true) [ true ↦ refl | false ↦ refl ];
 }
 
 abbrev pub word_leaf : Leaf (byte Code.word) Sort.value
@@ -128,7 +128,7 @@ falsehood_leaf = record {
   counted = λ n o. refl;
   eighth = refl;
   parts = refl;
-  fits = λ r o h. elim r [ true ↦ refl | false ↦ refl ];
+  fits = λ r o h. elim r as (λ k. fits_at (byte Code.false) (place k Sort.test) ≡ true) [ true ↦ refl | false ↦ refl ];
 }
 
 abbrev pub unsync_leaf : Leaf (byte Code.unsync) Sort.test
@@ -195,8 +195,8 @@ negation_one = record {
   lone = λ r o f. refl;
   eighth = refl;
   parts = refl;
-  fits = λ r. elim r [ true ↦ refl | false ↦ refl ];
-  inside = λ r. elim r [ true ↦ refl | false ↦ refl ];
+  fits = λ r. elim r as (λ k. fits_at (byte Code.not) (place k Sort.test) ≡ true) [ true ↦ refl | false ↦ refl ];
+  inside = λ r. elim r as (λ k. part_place (byte Code.not) (place k Sort.test) ≡ place k Sort.test) [ true ↦ refl | false ↦ refl ];
 }
 
 abbrev pub box_one : One (byte Code.box) Sort.interval Sort.test
@@ -259,8 +259,8 @@ sum_two = record {
   lone = lone_two;
   eighth = refl;
   parts = refl;
-  fits = λ r. elim r [ true ↦ refl | false ↦ refl ];
-  inside = λ r. elim r [ true ↦ refl | false ↦ refl ];
+  fits = λ r. elim r as (λ k. fits_at (byte Code.sum) (place k Sort.value) ≡ true) [ true ↦ refl | false ↦ refl ];
+  inside = λ r. elim r as (λ k. part_place (byte Code.sum) (place k Sort.value) ≡ place k Sort.value) [ true ↦ refl | false ↦ refl ];
 }
 
 abbrev pub equal_two : Two (byte Code.equal) Sort.test Sort.value
@@ -275,8 +275,8 @@ equal_two = record {
   lone = lone_two;
   eighth = refl;
   parts = refl;
-  fits = λ r. elim r [ true ↦ refl | false ↦ refl ];
-  inside = λ r. elim r [ true ↦ refl | false ↦ refl ];
+  fits = λ r. elim r as (λ k. fits_at (byte Code.equal) (place k Sort.test) ≡ true) [ true ↦ refl | false ↦ refl ];
+  inside = λ r. elim r as (λ k. part_place (byte Code.equal) (place k Sort.test) ≡ place k Sort.value) [ true ↦ refl | false ↦ refl ];
 }
 
 abbrev pub less_two : Two (byte Code.less) Sort.test Sort.value
@@ -291,8 +291,8 @@ less_two = record {
   lone = lone_two;
   eighth = refl;
   parts = refl;
-  fits = λ r. elim r [ true ↦ refl | false ↦ refl ];
-  inside = λ r. elim r [ true ↦ refl | false ↦ refl ];
+  fits = λ r. elim r as (λ k. fits_at (byte Code.less) (place k Sort.test) ≡ true) [ true ↦ refl | false ↦ refl ];
+  inside = λ r. elim r as (λ k. part_place (byte Code.less) (place k Sort.test) ≡ place k Sort.value) [ true ↦ refl | false ↦ refl ];
 }
 
 abbrev pub and_two : Two (byte Code.and) Sort.test Sort.test
@@ -307,8 +307,8 @@ and_two = record {
   lone = lone_two;
   eighth = refl;
   parts = refl;
-  fits = λ r. elim r [ true ↦ refl | false ↦ refl ];
-  inside = λ r. elim r [ true ↦ refl | false ↦ refl ];
+  fits = λ r. elim r as (λ k. fits_at (byte Code.and) (place k Sort.test) ≡ true) [ true ↦ refl | false ↦ refl ];
+  inside = λ r. elim r as (λ k. part_place (byte Code.and) (place k Sort.test) ≡ place k Sort.test) [ true ↦ refl | false ↦ refl ];
 }
 
 abbrev pub or_two : Two (byte Code.or) Sort.test Sort.test
@@ -323,8 +323,8 @@ or_two = record {
   lone = lone_two;
   eighth = refl;
   parts = refl;
-  fits = λ r. elim r [ true ↦ refl | false ↦ refl ];
-  inside = λ r. elim r [ true ↦ refl | false ↦ refl ];
+  fits = λ r. elim r as (λ k. fits_at (byte Code.or) (place k Sort.test) ≡ true) [ true ↦ refl | false ↦ refl ];
+  inside = λ r. elim r as (λ k. part_place (byte Code.or) (place k Sort.test) ≡ place k Sort.test) [ true ↦ refl | false ↦ refl ];
 }
 
 abbrev pub chop_two : Two (byte Code.chop) Sort.interval Sort.interval

@@ -1,7 +1,6 @@
 -- What a line says, and the instruction that it is about, on trees.
 use Rattle.std.specs.Prelude.{Bool, not, ◌&&◌, ◌||◌, List, map, ℕ, eqb, leb}
 use Rattle.semantics.specs.Machine.{Instr}
-use Rattle.logic.specs.Statement
 use Rattle.logic.specs.Statement.{Statement, first}
 use Rattle.logic_schemas.specs.Rules.{Shape, Shape.inside, Shape.implies, Shape.triple, Shape.pair}
 use Rattle.logic_schemas.specs.Fits.{opcode, word_of, reg_of, formula_of, notes_of}
