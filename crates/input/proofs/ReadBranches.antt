@@ -8,7 +8,9 @@ use lib.Dec.{eqb}
 use lib.ListN.{length, take}
 use lib.Seq.{take_at, length-take-le}
 use borrow.Author.Tests.{eq-eqb, ne_eqb, eqb-false}
-use Rattle.io.proofs.Counting.{prefix_len_of_le}
+use Rattle.std.specs.Prelude.{Option, Some, None}
+use Rattle.std.specs.declared.io.Error.{Error}
+use Rattle.input.proofs.Counting.{prefix_len_of_le}
 use Rattle.input.specs.Filled.{Fits}
 use Rattle.input.specs.Reached.{reached_by, Goes}
 use Rattle.input.specs.declared.Filled.{Filled}
@@ -16,32 +18,31 @@ use Rattle.input.specs.declared.Filled.TheVariants.{Full, Ended, Failed}
 use Rattle.input.specs.declared.Reached.{Reached}
 use Rattle.input.specs.declared.Reached.TheVariants.{More, Over}
 
-module _ (failed : Bool) (more done : ℕ) where
-  pub reached_failed : failed ≡ true → Over Failed ≡ reached_by failed more done
+module _ (more done : ℕ) where
+  pub reached_failed : (failed : Option Error) (e : Error) → failed ≡ Some e → Over (Failed e) ≡ reached_by failed more done
   unfolding reached_by
-  reached_failed e = rw e
+  reached_failed failed e q = rw q
 
-  pub reached_end : failed ≡ false → more ≡ 0 → Over (Ended done) ≡ reached_by failed more done
+  pub reached_end : (failed : Option Error) → failed ≡ None → more ≡ 0 → Over (Ended done) ≡ reached_by failed more done
   unfolding reached_by
-  reached_end e z = rw (e, eq-eqb _ _ z)
+  reached_end failed q z = rw (q, eq-eqb _ _ z)
 
-  pub reached_more : failed ≡ false → (more ≡ 0 → ⊥) → More (done + more) ≡ reached_by failed more done
+  pub reached_more : (failed : Option Error) → failed ≡ None → (more ≡ 0 → ⊥) → More (done + more) ≡ reached_by failed more done
   unfolding reached_by
-  reached_more e z = rw (e, ne_eqb _ _ z)
+  reached_more failed q z = rw (q, ne_eqb _ _ z)
 
-  goes_by : (room : ℕ) → done + more ≤ room → Goes (reached_by failed more done) done room
+  goes_by : (failed : Option Error) (room : ℕ) → done + more ≤ room → Goes (reached_by failed more done) done room
   unfolding reached_by Goes
-  goes_by room h = go failed (eqb more 0) (λ e. eqb-false more 0 e)
+  goes_by (Some e) room h = tt
+  goes_by None room h = go (eqb more 0) (λ e. eqb-false more 0 e)
     where
-      go : (f z : Bool) → (z ≡ false → more ≡ 0 → ⊥) → Goes (cond f (Over Failed) (cond z (Over (Ended done)) (More (done + more)))) done
-          room
-      go true z n = tt
-      go false true n = refl
-      go false false n = let m : more ≡ 0 → ⊥ = n refl in (omega arith, h)
+      go : (z : Bool) → (z ≡ false → more ≡ 0 → ⊥) → Goes (cond z (Over (Ended done)) (More (done + more))) done room
+      go true n = refl
+      go false n = let m : more ≡ 0 → ⊥ = n refl in (omega arith, h)
 
   -- a read goes no further than there is room
-  pub goes : (r : Reached) (room : ℕ) → r ≡ reached_by failed more done → done + more ≤ room → Goes r done room
-  goes r room e h = subst (λ x. Goes x done room) (sym e) (goes_by room h)
+  pub goes : (failed : Option Error) (r : Reached) (room : ℕ) → r ≡ reached_by failed more done → done + more ≤ room → Goes r done room
+  goes failed r room e h = subst (λ x. Goes x done room) (sym e) (goes_by failed room h)
 
 -- what is read behind a part leaves the part as it was
 pub front_kept : (n : ℕ) (l rest : List ℕ) → n ≤ length l → take n (take n l ++ rest) ≡ take n l
@@ -68,7 +69,7 @@ over_by : (how : Filled) (l : List ℕ) (done : ℕ) → done < length l → Goe
 unfolding Goes Fits
 over_by Full l done h g = tt
 over_by (Ended n) l done h g = (omega arith, prefix_len_of_le n l (omega arith))
-over_by Failed l done h g = tt
+over_by (Failed e) l done h g = tt
 
 -- where there is nothing more to read, the buffer is not full
 pub over_fits : (r : Reached) (how : Filled) (l : List ℕ) (done : ℕ) → done < length l → Goes r done (length l) → r ≡ Over how → Fits how l

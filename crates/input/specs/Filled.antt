@@ -1,6 +1,6 @@
 -- How a buffer was filled.
 use Rattle.std.specs.Prelude.{List, ℕ, ◌<◌, length}
-use Rattle.io.specs.Counts.{IsPrefixLen}
+use Rattle.std.specs.Counts.{IsPrefixLen}
 use Rattle.input.specs.declared.Filled.{Filled}
 use Rattle.input.specs.declared.Filled.TheVariants.{Full, Ended, Failed}
 
@@ -8,4 +8,4 @@ use Rattle.input.specs.declared.Filled.TheVariants.{Full, Ended, Failed}
 unfoldable pub Fits : Filled → List ℕ → Type 0
 Fits Full l = Unit {0}
 Fits (Ended n) l = (n < length l) × IsPrefixLen n l
-Fits Failed l = Unit {0}
+Fits (Failed e) l = Unit {0}

@@ -2,9 +2,13 @@
 //
 // A contract cannot speak of what an operating system call read: those here say how much of a buffer was filled and which of its bytes
 // stay. What follows from a read's result is left to functions on numbers, which equal their definitions.
+#![tactic(auto)]
+
 ghost use Rattle.std.specs.Prelude.{◌≡◌, ◌+◌, ◌≤◌, length, take};
 ghost use Rattle.input.specs.Filled.{Fits};
 ghost use Rattle.input.specs.Reached.{reached_by, Goes};
+
+use std::io::{Error, Read};
 
 // How a buffer was filled.
 #[derive(Drop)]
@@ -12,7 +16,8 @@ pub enum Filled {
     Full,
     // The input ended after this many bytes.
     Ended(usize),
-    Failed,
+    // A read failed, with this error.
+    Failed(Error),
 }
 
 // What one read has led to.
@@ -25,12 +30,12 @@ enum Reached {
 }
 
 // What a read of `more` bytes behind `done` bytes has led to; none come at the input's end. `room` bounds the sum.
-fn reached_by(failed: bool, more: usize, done: usize, room: usize) -> Reached
+fn reached_by(failed: Option<Error>, more: usize, done: usize, room: usize) -> Reached
     requires { done + more ≤ room }
     ensures { result ≡ reached_by failed more done }
 {
-    if failed {
-        return Reached::Over(Filled::Failed);
+    if let Some(error) = failed {
+        return Reached::Over(Filled::Failed(error));
     }
     if more == 0 {
         return Reached::Over(Filled::Ended(done));
@@ -39,23 +44,24 @@ fn reached_by(failed: bool, more: usize, done: usize, room: usize) -> Reached
 }
 
 // Reads once, to the part of the buffer behind the first `done` bytes, which stay.
-fn read_behind(fd: i32, buf: &mut [u8], done: usize) -> Reached
+fn read_behind<R: Read>(reader: &mut R, buf: &mut [u8], done: usize) -> Reached
     requires { done ≤ length buf.old }
     ensures kept { take done buf.new ≡ take done buf.old }
     ensures goes { Goes result done (length buf.new) }
 {
-    let got = libc::read(fd, &mut buf[done..]);
-    let more = io::count(got, &buf[done..]);
-    reached_by(got < 0, more, done, buf.len())
+    match reader.read(&mut buf[done..]) {
+        Ok(more) => reached_by(None, more, done, buf.len()),
+        Err(error) => reached_by(Some(error), 0, done, buf.len()),
+    }
 }
 
 // Reads until the buffer is full, the input ends or a read fails. A pipe may hand over its bytes in several reads.
-pub fn fill(fd: i32, buf: &mut [u8]) -> Filled
+pub fn fill<R: Read>(reader: &mut R, buf: &mut [u8]) -> Filled
     ensures { Fits result buf.new }
 {
     let mut done: usize = 0;
     while done < buf.len() {
-        match read_behind(fd, buf, done) {
+        match read_behind(reader, buf, done) {
             Reached::More(end) => {
                 done = end;
             }

@@ -1,6 +1,6 @@
 -- Files of cases.
 use Rattle.std.proofs.Common.{◌≡◌, ℕ, ◌≤◌, List, length, take, ℤ, subst}
-use Rattle.io.specs.Counts.{IsPrefixLen}
+use Rattle.std.specs.Counts.{IsPrefixLen}
 use Rattle.vectors.specs.File.{Named}
 use Rattle.vectors.specs.declared.file.File.{File}
 use Rattle.vectors.specs.declared.file.File.TheVariants.{Open, Missing}

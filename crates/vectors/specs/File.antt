@@ -1,6 +1,6 @@
 -- Files of cases.
 use Rattle.std.specs.Prelude.{ℕ, List}
-use Rattle.io.specs.Counts.{IsPrefixLen}
+use Rattle.std.specs.Counts.{IsPrefixLen}
 use Rattle.vectors.specs.declared.file.File.{File}
 use Rattle.vectors.specs.declared.file.File.TheVariants.{Open, Missing}
 

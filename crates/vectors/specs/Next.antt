@@ -1,6 +1,6 @@
 -- The next case of a file.
 use Rattle.std.specs.Prelude.{ℕ, List}
-use Rattle.io.specs.Counts.{IsPrefixLen}
+use Rattle.std.specs.Counts.{IsPrefixLen}
 use Rattle.input.specs.declared.Filled.{Filled}
 use Rattle.input.specs.declared.Filled.TheVariants.{Full, Ended, Failed}
 use Rattle.vectors.specs.declared.end.End.TheVariants.{Cut, Unread}
