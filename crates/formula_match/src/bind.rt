@@ -20,7 +20,7 @@ impl Hole {
 
 // The bindings of the holes: formulas by position with the nesting left there (0: not bound yet), and numbers plus 1 (0: not bound yet).
 // It is passed by value at each node, so it is kept small.
-#[derive(Drop)]
+#[derive(Clone, Copy)]
 pub struct Bind {
     pub at: [usize; 5],
     pub left: [u8; 5],
@@ -34,7 +34,7 @@ impl Bind {
 
 // The result of matching the roots of a template and a formula. Kind: 0 they differ, 1 all is matched, 2 and 3 one and two parts are
 // left, 4 a hole is bound to the formula, whose end is not known yet.
-#[derive(Drop)]
+#[derive(Clone, Copy)]
 pub struct Root {
     pub kind: u8,
     pub tpl: usize,
@@ -95,7 +95,7 @@ pub fn match_hole(image: &[u8], tpl: usize, j: usize, at: usize, left: u8, bind:
 }
 
 // Whether an operand fits, and the bindings then.
-#[derive(Drop)]
+#[derive(Clone, Copy)]
 pub struct Taken {
     pub ok: bool,
     pub bind: Bind,

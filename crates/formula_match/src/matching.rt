@@ -8,7 +8,7 @@ use formula::end::end_at;
 use formula::node::{Node, node_at};
 
 // Whether a template fits, the positions past the template and the formula, and the bindings of the holes.
-#[derive(Drop)]
+#[derive(Clone, Copy)]
 pub struct Match {
     pub ok: bool,
     pub tpl: usize,

@@ -6,7 +6,7 @@ use crate::bind::Bind;
 use crate::matching::{match_at, match_root};
 
 // Whether a template fits, the position past it, and the bindings of the holes.
-#[derive(Drop)]
+#[derive(Clone, Copy)]
 pub struct Whole {
     pub ok: bool,
     pub tpl: usize,
