@@ -1,8 +1,8 @@
 /*
  * Judges the image in a file with the proved checker and prints the nine fields of its verdict.
  *
- *     rt staticlib hidokpalu
- *     cc -std=c11 -Wall -Wextra -Iinclude examples/check.c target/staticlib/libhidokpalu.a -o target/check
+ *     (cd crates/hidokpalu && rt lib)
+ *     cc -std=c11 -Wall -Wextra -Iinclude examples/check.c crates/hidokpalu/out/libhidokpalu.a -o target/check
  *     target/check FILE
  *
  * The status is 0 for an accepted image, 1 for any other, 2 if there is no image to judge.

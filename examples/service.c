@@ -2,8 +2,8 @@
  * Two callers of one proved service: caller 1 may check and bill, caller 2 may check and replay. The rights are given
  * here, before the first call; no call changes them. Each caller has a number of billed images of its own.
  *
- *     rt staticlib hidokpalu
- *     cc -std=c11 -Wall -Wextra -Iinclude examples/service.c target/staticlib/libhidokpalu.a -o target/service
+ *     (cd crates/hidokpalu && rt lib)
+ *     cc -std=c11 -Wall -Wextra -Iinclude examples/service.c crates/hidokpalu/out/libhidokpalu.a -o target/service
  *     target/service FILE [TRACE]
  *
  * TRACE has two bytes for each step that was taken, thread and position. Each call is printed with its code. The status

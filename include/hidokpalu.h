@@ -1,9 +1,9 @@
 /*
  * Hidokpalu: a proved checker of proof outlines for C11 release-acquire programs.
  *
- * Link target/staticlib/libhidokpalu.a, which `rt staticlib hidokpalu` writes (x86-64 Linux): it has every call below. It
- * needs memcpy and memset of the C library, and nothing else: no heap, no files, no state from one call to the next. So any
- * number of threads may call it at once. (`rt staticlib checker` writes an archive that has `check_image` alone.)
+ * Link crates/hidokpalu/out/libhidokpalu.a, which `rt lib` writes in crates/hidokpalu (x86-64 Linux): it has every call
+ * below. It needs memcpy and memset of the C library, and nothing else: no heap, no files, no state from one call to the
+ * next. So any number of threads may call it at once.
  *
  * Stack, measured over all stored images: `check_image` takes 56 KB for the smallest that is accepted and 134 KB for a test nested as deep
  * as it may be. Give it 192 KB, and `replay_trace` too, which takes 5 KB more. `trim_image` takes 40 KB more than

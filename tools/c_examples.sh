@@ -1,5 +1,5 @@
 #!/usr/bin/env bash
-# Compiles the examples in C against the header, warnings as errors, links them with the archive that `rt staticlib hidokpalu` writes, and
+# Compiles the examples in C against the header, warnings as errors, links them with the archive crates/hidokpalu/out/libhidokpalu.a, and
 # runs them: `check` on images that are accepted, refused and none, whose lines have to be the independent checker's; `service` on an
 # accepted image with a trace.
 set -eu
@@ -10,7 +10,7 @@ trap 'rm -rf "$work"' EXIT
 cargo build --release --offline --quiet -p outline -p reference
 tools=${CARGO_TARGET_DIR:-target/rust}/release
 for name in check service; do
-    cc -std=c11 -Wall -Wextra -Wpedantic -Werror -Iinclude "examples/$name.c" target/staticlib/libhidokpalu.a -o "$work/$name"
+    cc -std=c11 -Wall -Wextra -Wpedantic -Werror -Iinclude "examples/$name.c" crates/hidokpalu/out/libhidokpalu.a -o "$work/$name"
 done
 
 fail() {

@@ -37,7 +37,7 @@ def about(path):
 def crates():
     """The crates in the order of crates.txt."""
     with open('crates.txt', encoding='utf8') as file:
-        return re.findall(r'^(\w+):', file.read(), re.M)
+        return re.findall(r'^(\w+)(?: staticlib)?:', file.read(), re.M)
 
 
 def section(title, folder):

@@ -53,7 +53,7 @@ def read_rooms(text):
             comment = line
         elif line.strip():
             name, cites = line.split(":")
-            rooms[-1].crates.append(Crate(name, kind_of(comment), cites.split()))
+            rooms[-1].crates.append(Crate(name.split()[0], kind_of(comment), cites.split()))
     return rooms
 
 

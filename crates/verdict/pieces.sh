@@ -1,10 +1,10 @@
 #!/bin/sh
-# Runs the proved program (`rt check verdict` builds it) on input that comes in pieces, that ends at the buffer's end, and
-# that cannot be read. What it writes must be the stored line, the line of an image that is too long, and nothing.
+# Runs the proved program (`rt run` builds it here, and so does `rt ci`) on input that comes in pieces, that ends at the buffer's end,
+# and that cannot be read. What it writes must be the stored line, the line of an image that is too long, and nothing.
 set -eu
 cd "$(dirname "$0")"
-program=../../target/bin/verdict
-[ -x "$program" ] || { echo "build it first: rt check verdict" >&2; exit 2; }
+program=out/verdict
+[ -x "$program" ] || { echo "build it first: rt run <stdin" >&2; exit 2; }
 size=$(wc -c <stdin)
 long='2 0 0 0 0 0 0 0 0'
 tried=0 wrong=0

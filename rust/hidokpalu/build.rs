@@ -1,5 +1,5 @@
-//! Links the archive that `rt staticlib hidokpalu` writes into the repository's target folder; with the feature `exports` that of
-//! `rt staticlib exports` too. An archive that is not there is an error as soon as something is linked.
+//! Links the archive that `rt lib` writes in `crates/hidokpalu`; with the feature `exports` that of `crates/exports` too. An archive that
+//! is not there is an error as soon as something is linked.
 
 use std::process::Command;
 
@@ -14,13 +14,13 @@ fn kit() -> String {
 
 fn main() {
     let here = std::env::var("CARGO_MANIFEST_DIR").expect("cargo sets it");
-    let archives = format!("{here}/../../target/staticlib");
-    println!("cargo:rustc-link-search=native={archives}");
     let mut linked = vec!["hidokpalu"];
     if std::env::var_os("CARGO_FEATURE_EXPORTS").is_some() {
         linked.push("exports");
     }
     for name in linked {
+        let archives = format!("{here}/../../crates/{name}/out");
+        println!("cargo:rustc-link-search=native={archives}");
         println!("cargo:rustc-link-lib=static={name}");
         println!("cargo:rerun-if-changed={archives}/lib{name}.a");
     }

@@ -1,6 +1,6 @@
 //! Judges the image in a file with the proved checker and prints its verdict.
 //!
-//!     rt staticlib hidokpalu
+//!     (cd crates/hidokpalu && rt lib)
 //!     cargo run --release --offline -p check FILE
 //!
 //! The status is 0 for an accepted image, 1 for any other, 2 if there is no image to judge.

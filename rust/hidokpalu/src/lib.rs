@@ -10,7 +10,7 @@
 //! }
 //! ```
 //!
-//! The archive comes from `rt staticlib hidokpalu`. The calls need no heap and keep nothing between them, so any number of threads may
+//! The archive comes from `rt lib` in `crates/hidokpalu`. The calls need no heap and keep nothing between them, so any number of threads may
 //! make them at once; what they need of the stack is told in the header.
 
 pub mod calls;

@@ -113,6 +113,7 @@ fn crates_under(name: &str) -> usize {
     let lines = list.lines().filter(|line| !line.starts_with('#'));
     let cited: BTreeMap<&str, Vec<&str>> = lines
         .filter_map(|line| line.split_once(':'))
+        .map(|(name, cites)| (name.trim_end_matches(" staticlib"), cites))
         .map(|(name, cites)| (name, cites.split_whitespace().collect()))
         .collect();
     let (mut found, mut left) = (BTreeSet::new(), vec![name]);

@@ -9,6 +9,8 @@ pub struct Header {
     pub shown: String,
     /// The field `from`: where the program comes from.
     pub from: String,
+    /// The field `theorem`: the theorem by which it is true in every run.
+    pub theorem: String,
     /// The field `open`: why an obligation stays open.
     pub open: String,
 }
@@ -18,7 +20,7 @@ fn paragraphs(text: &str) -> Vec<String> {
     let mut all: Vec<String> = vec![String::new()];
     let comment = text.lines().map_while(|line| line.strip_prefix('#'));
     for line in comment.map(str::trim) {
-        let begins = ["from: ", "open: ", "refused: ", "Build with"];
+        let begins = ["from: ", "theorem: ", "open: ", "refused: ", "Build with"];
         if line.is_empty() || begins.iter().any(|field| line.starts_with(field)) {
             all.push(String::new());
         }
@@ -52,9 +54,10 @@ impl Header {
             first: all.first().ok_or("no header")?.trim_end_matches('.').to_string(),
             shown: shown.unwrap_or_default(),
             from: field("from: "),
+            theorem: field("theorem: "),
             open: field("open: "),
         };
-        let whole = [&header.first, &header.shown, &header.from, &header.open];
+        let whole = [&header.first, &header.shown, &header.from, &header.theorem, &header.open];
         match whole.iter().any(|field| field.contains('|')) {
             true => Err("a header with `|` does not fit into a table".into()),
             false => Ok(header),
