@@ -20,7 +20,7 @@ TABLE = os.path.join(ROOT, "docs", "BELIEVED.md")
 
 # the records by which the contracts of the service's entry points speak
 SERVED = ("CheckServed", "TrimServed", "BillServed", "HandoverServed", "ReplayServed", "AcrossServed")
-SERVICE = [("service_spec", "Promise", name) for name in SERVED] + [("service_spec", "Opening", "serviceFor")]
+SERVICE = [("service_spec", "Promise", name) for name in SERVED] + [("service_spec", "Opening", "service_for")]
 
 # a statement: what it is called, and the definitions that a contract states it by
 STATEMENTS = [
@@ -70,7 +70,7 @@ class Module:
 
 def target(path):
     """The crate and module that an import names; None for a module of the kit."""
-    found = re.match(r"Rattle·([^.·]+)(?:·specs)?\.specs\.(.*)$", path)
+    found = re.match(r"Rattle\.([^.]+)\.specs\.(.*)$", path)
     if not found:
         return None
     crate, module = found.group(1), found.group(2)
@@ -226,7 +226,7 @@ def read_code(place, path):
                     module.owner.setdefault(variant.group(1), current)
             if line.startswith("}") or (found and line.rstrip().endswith(";")):
                 current = None
-            comments = comments + 1 if line.startswith("//") else 0
+            comments = comments + 1 if line.startswith("//") else comments if line.startswith("#[") else 0
     for name, definition in module.defined.items():
         for other in module.defined:
             module.imported.setdefault(other, (place, other))
@@ -317,7 +317,7 @@ class Follower:
                     if known is None or known.kind not in ("data", "enum"):
                         hidden.add(token)
         found = {token.rstrip(".") for token in SPLIT.split(heads + "\n" + text) if token and not token.startswith(".")}
-        return found - hidden
+        return {token for token in found if token not in hidden and token.partition(".")[0] not in hidden}
 
     def follow(self, roots, before):
         """The definitions that the roots reach, without those before."""

@@ -75,45 +75,45 @@ const LIMITS: &str = "limits/specs/Limits";
 /// The codes of all calls.
 fn codes() -> Vec<(&'static str, u32)> {
     let trim = "trim_encode/specs/Answer";
-    let room = "(cond (adds (instrAt P s t) && leb room (used s (P .words)))";
+    let room = "(cond (adds (instr_at P s t) && leb room (used s (P.words)))";
     vec![
-        ("ACCEPTED", value(FIELDS, "fieldsOf (Accepted n) = gathered {} 0 nowhere 0 n")),
+        ("ACCEPTED", value(FIELDS, "fields_of (Accepted n) = gathered {} 0 nowhere 0 n")),
         (
             "SHORT_OUTPUT",
-            value("verdict_record/specs/Output", "(ltb (length out) size) {} (fieldsOf v .code)"),
+            value("verdict_record/specs/Output", "(ltb (length out) size) {} (fields_of v).code\n"),
         ),
-        ("SIZE", value(FAULT, "codeOf Size = {}\n")),
-        ("LENGTH", value(FAULT, "codeOf Length = {}\n")),
-        ("KIND", value(FAULT, "codeOf Kind = {}\n")),
-        ("BODY", value(FAULT, "codeOf Body = {}\n")),
-        ("NUMBER", value(FAULT, "codeOf Number = {}\n")),
-        ("FORMULA", value(FAULT, "codeOf Formula = {}\n")),
-        ("SORT", value(FAULT, "codeOf Sort = {}\n")),
-        ("OWNER", value(FAULT, "codeOf Owner = {}\n")),
-        ("OPERAND", value(FAULT, "codeOf Operand = {}\n")),
-        ("NO_LINE", value(VERDICT, "codeOf true says just = {}\n")),
-        ("OTHER_CONCLUSION", value(VERDICT, "codeOf false false just = {}\n")),
-        ("UNJUSTIFIED", value(VERDICT, "codeOf false true false = {}\n")),
-        ("CLAIM", value(FIELDS, "fieldsOf (Denied i p l n) = gathered {} i p l n")),
-        ("TRIM_REFUSED", value(trim, "answerWith s buffer Declined = answer {} 0\n")),
+        ("SIZE", value(FAULT, "code_of Size = {}\n")),
+        ("LENGTH", value(FAULT, "code_of Length = {}\n")),
+        ("KIND", value(FAULT, "code_of Kind = {}\n")),
+        ("BODY", value(FAULT, "code_of Body = {}\n")),
+        ("NUMBER", value(FAULT, "code_of Number = {}\n")),
+        ("FORMULA", value(FAULT, "code_of Formula = {}\n")),
+        ("SORT", value(FAULT, "code_of Sort = {}\n")),
+        ("OWNER", value(FAULT, "code_of Owner = {}\n")),
+        ("OPERAND", value(FAULT, "code_of Operand = {}\n")),
+        ("NO_LINE", value(VERDICT, "code_of true says just = {}\n")),
+        ("OTHER_CONCLUSION", value(VERDICT, "code_of false false just = {}\n")),
+        ("UNJUSTIFIED", value(VERDICT, "code_of false true false = {}\n")),
+        ("CLAIM", value(FIELDS, "fields_of (Denied i p l n) = gathered {} i p l n")),
+        ("TRIM_REFUSED", value(trim, "answer_with s buffer Declined = answer {} 0\n")),
         ("TRIM_ROOM", value(trim, "(answer {} 0) (answer 0 (length t))")),
         ("REPLAY_REFUSED", value("replay_spec/specs/Promise", "declined = record { code = {};")),
         ("STEP_THREAD", value(REPLAY, "replayed P room s k (t ∷ []) = record { code = {};")),
         ("STEP_PICK", value(REPLAY, &format!("{room} 29 0) {{}})"))),
         ("STEP_ROOM", value(REPLAY, &format!("{room} {{}} 0)"))),
-        ("BILL_REFUSED", value(BILL, "notAccepted = {}\n")),
-        ("BILL_END", value(BILL, "numberAtEnd = {}\n")),
-        ("UNLIKE", value(HANDOVER, "byAcceptance old new table Declined b = {}\n")),
-        ("TABLE", value(HANDOVER, "(cond linesServe 0 34) {}\n")),
-        ("UNSERVED", value(HANDOVER, "(cond linesServe 0 {})")),
-        ("NO_CALLER", value(ACCOUNT, "admissionAt r none = {}\n")),
-        ("NO_RIGHT", value(ACCOUNT, "(holds r (d .rights)) 0 {}\n")),
-        ("START", value(OBLIGATION, "placeOf (Start t) = record { class = {}; thread = t;")),
-        ("STEP", value(OBLIGATION, "placeOf (Step t k) = record { class = {}; thread = t;")),
-        ("TAKEN", value(OBLIGATION, "placeOf (Taken t k) = record { class = {}; thread = t;")),
+        ("BILL_REFUSED", value(BILL, "not_accepted = {}\n")),
+        ("BILL_END", value(BILL, "number_at_end = {}\n")),
+        ("UNLIKE", value(HANDOVER, "by_acceptance old new table Declined b = {}\n")),
+        ("TABLE", value(HANDOVER, "(cond lines_serve 0 34) {}\n")),
+        ("UNSERVED", value(HANDOVER, "(cond lines_serve 0 {})")),
+        ("NO_CALLER", value(ACCOUNT, "admission_at r none = {}\n")),
+        ("NO_RIGHT", value(ACCOUNT, "(holds r d.rights) 0 {}\n")),
+        ("START", value(OBLIGATION, "place_of (Start t) = record { class = {}; thread = t;")),
+        ("STEP", value(OBLIGATION, "place_of (Step t k) = record { class = {}; thread = t;")),
+        ("TAKEN", value(OBLIGATION, "place_of (Taken t k) = record { class = {}; thread = t;")),
         (
             "INTERFERENCE",
-            value(OBLIGATION, "placeOf (Interference u j t k) = record { class = {}; thread = u;"),
+            value(OBLIGATION, "place_of (Interference u j t k) = record { class = {}; thread = u;"),
         ),
         ("MAY_CHECK", value(ACCOUNT, "holds Check n = eqb (n % 2) {}\n")),
         ("MAY_REPLAY", value(ACCOUNT, "holds Replay n = eqb (n / {} % 2) 1\n")),
@@ -128,13 +128,16 @@ fn sizes() -> Vec<(&'static str, u32)> {
     assert_eq!(definition("service_spec/specs/Opening", "places"), "2 * callers");
     assert_eq!(definition("bill_spec/specs/Output", "size"), "2 + Limits.threads");
     vec![
-        ("IMAGE_BYTES", value(LIMITS, "\nimageBytes = {}\n")),
+        ("IMAGE_BYTES", value(LIMITS, "\nimage_bytes = {}\n")),
         ("RECORD_BYTES", value(RECORD, "\nsize = {}\n")),
         ("RECORD_KIND", value(RECORD, "\nkind = {}\n")),
         ("REPLAY_NUMBERS", value(ANSWER, "\nsize = {}\n")),
-        ("WRITES", value("replay_machine/specs/Replayed", "roomOf lent = cond (ltb lent {}) lent")),
-        ("WRITE_BYTES", value(TABLE, "entriesIn table = length table / {}\n")),
-        ("HANDOVER_BYTES", value(ENTRIES, "\nentrySize = {}\n")),
+        (
+            "WRITES",
+            value("replay_machine/specs/Replayed", "room_of lent = cond (ltb lent {}) lent"),
+        ),
+        ("WRITE_BYTES", value(TABLE, "entries_in table = length table / {}\n")),
+        ("HANDOVER_BYTES", value(ENTRIES, "\nentry_size = {}\n")),
         ("CALLERS", callers),
         ("SERVICE_NUMBERS", 2 * callers),
         ("BILL_NUMBERS", 2 + threads),
@@ -143,24 +146,24 @@ fn sizes() -> Vec<(&'static str, u32)> {
 
 /// Where the numbers of a record, an answer, an entry and a service stand.
 fn places() -> Vec<(&'static str, u32)> {
-    let record = |field| place(RECORD, "recordBytes f", field);
-    let answer = |field| place(ANSWER, "numbersOf a", field);
-    let write = |field| place(TABLE, "entryBytes w", field);
-    let bill = |field| place("bill_spec/specs/Output", "numbersOf b", field);
-    assert_eq!(definition(ENTRIES, "pointNamed table i"), "getD table (entrySize * i) 0");
-    assert!(definition(ACCOUNT, "accountAt s c").contains("rights = getD s (c - 1) 0;"));
+    let record = |field| place(RECORD, "record_bytes f", field);
+    let answer = |field| place(ANSWER, "numbers_of a", field);
+    let write = |field| place(TABLE, "entry_bytes w", field);
+    let bill = |field| place("bill_spec/specs/Output", "numbers_of b", field);
+    assert_eq!(definition(ENTRIES, "point_named table i"), "get_or table (entry_size * i) 0");
+    assert!(definition(ACCOUNT, "account_at s c").contains("rights = get_or s (c - 1) 0;"));
     vec![
         ("AT_LENGTH", record("(size - 2)")),
         ("AT_KIND", record("kind")),
-        ("AT_CODE", record("(f .code)")),
-        ("AT_RECORD", record("(f .«record»)")),
-        ("AT_CLASS", record("(f .class)")),
-        ("AT_THREAD", record("(f .thread)")),
-        ("AT_POINT", record("(f .point)")),
-        ("AT_OTHER_THREAD", record("(f .«other_thread»)")),
-        ("AT_OTHER_POINT", record("(f .«other_point»)")),
-        ("AT_LINE", record("(f .line)")),
-        ("AT_COUNT", record("(f .count)")),
+        ("AT_CODE", record("f.code")),
+        ("AT_RECORD", record("f.«record»")),
+        ("AT_CLASS", record("f.class")),
+        ("AT_THREAD", record("f.thread")),
+        ("AT_POINT", record("f.point")),
+        ("AT_OTHER_THREAD", record("f.other_thread")),
+        ("AT_OTHER_POINT", record("f.other_point")),
+        ("AT_LINE", record("f.line")),
+        ("AT_COUNT", record("f.count")),
         ("REPLAY_STEPS", answer(".steps")),
         ("REPLAY_POINT", answer(".points")),
         ("REPLAY_REGISTER", answer(".registers")),
@@ -169,10 +172,10 @@ fn places() -> Vec<(&'static str, u32)> {
         ("WRITE_COVERED", write(".covered")),
         ("WRITE_VIEW", write(".stored")),
         ("HANDOVER_POINT", 0),
-        ("HANDOVER_LINE", value(ENTRIES, "le16 (drop (entrySize * i + {}) table)")),
+        ("HANDOVER_LINE", value(ENTRIES, "le16 (drop (entry_size * i + {}) table)")),
         ("SERVICE_RIGHTS", 0),
         // The number of caller 1.
-        ("SERVICE_BILLED", value(ACCOUNT, "numberPlace c = {} + c\n") + 1),
+        ("SERVICE_BILLED", value(ACCOUNT, "number_place c = {} + c\n") + 1),
         ("BILL_CENTS", bill(".cents")),
         ("BILL_BILLED", bill(".billed")),
         ("BILL_THREAD", bill(".threads")),
@@ -190,15 +193,15 @@ fn every_constant_of_the_header_is_the_definitions_value() {
 
 /// The limits of the page that stand among the definitions, with the name that they have there.
 const NAMED: [(&str, &str); 12] = [
-    ("bytes of an image, for every call", "imageBytes"),
-    ("bytes of an image, for the program `verdict`", "programBytes"),
+    ("bytes of an image, for every call", "image_bytes"),
+    ("bytes of an image, for the program `verdict`", "program_bytes"),
     ("threads", "threads"),
     ("words", "words"),
     ("registers", "registers"),
-    ("range", "mostValues"),
+    ("range", "most_values"),
     ("points of a thread", "points"),
     ("formulas", "formulas"),
-    ("bytes of a formula", "formulaBytes"),
+    ("bytes of a formula", "formula_bytes"),
     ("nesting of a formula", "nesting"),
     ("lines", "lines"),
     ("claims", "claims"),
@@ -211,7 +214,7 @@ fn every_limit_of_the_page_is_the_definitions_value() {
         let [_, least, most, _] = told.iter().find(|[other, ..]| other == limit).expect(limit);
         assert_eq!(number(most), value(LIMITS, &format!("\n{name} = {{}}\n")), "{limit}");
         if limit == "range" {
-            assert_eq!(number(least), value(LIMITS, "\nfewestValues = {}\n"));
+            assert_eq!(number(least), value(LIMITS, "\nfewest_values = {}\n"));
         }
     }
 }
