@@ -1,5 +1,5 @@
 // Why an image is refused: a case for each of the verdict's codes 2 to 9 and 23; `specs/Fault.antt` has the numbers.
-#[derive(Drop)]
+#[derive(Clone, Copy)]
 pub enum Fault {
     // The image is empty or longer than the limit.
     Size,
@@ -22,7 +22,7 @@ pub enum Fault {
 }
 
 // The result of checking a part of the image: passed, or its first fault.
-#[derive(Drop)]
+#[derive(Clone, Copy)]
 pub enum Checked {
     Passed,
     Faulty(Fault),

@@ -2,15 +2,15 @@
 use mathlib.Core.Path.{◌≡◌, refl, ap, ◌∙◌}
 use mathlib.Core.Bool.{Bool, true, false, cond}
 use mathlib.Core.List.{List, [], ◌∷◌, ◌++◌, append-nil, append_assoc}
-use Prim.Native.Nat.{ℕ, zero, suc, ◌+◌, ◌-◌, ◌*◌, ◌/◌, ◌%◌, ◌≤◌, ◌<◌}
+use Prim.Native.Nat.{ℕ, zero, suc, ◌+◌, ◌-◌, ◌*◌, ◌/◌, ◌%◌, ◌<◌}
 use native.Mathlib.Nat.{mod-eq_of_lt}
 use native.Mathlib.Omega.{arith}
 use lib.Dec.{ltb, leb}
 use lib.ListN.{length, drop}
-use borrow.Author.Tests.{le-leb, ltb-true, ltb-false}
+use borrow.Author.Tests.{le-leb}
 use Rattle.limits.specs.Numbers.{le16}
-use Rattle.verdict_record.specs.Record.{size, kind, two, record_bytes}
-use Rattle.verdict_record.specs.Text.{digit, digits, decimal, numbered, space, newline, place_text, text_of}
+use Rattle.verdict_record.specs.Record.{record_bytes}
+use Rattle.verdict_record.specs.Text.{digit, digits, numbered, space, newline, place_text, text_of}
 use Rattle.verdict_record.specs.Uncut.{beyond, Uncut}
 use Rattle.verdict_record.specs.declared.verdict.Fields.{Fields}
 

@@ -1,4 +1,6 @@
 // The verdict of the checker: its nine numbers, its record of 22 bytes and its line of text.
+#![tactic(auto)]
+
 pub mod fault_code;
 pub mod obligation;
 pub mod output;

@@ -3,7 +3,7 @@ ghost use Rattle.std.specs.Prelude.{◌≡◌};
 ghost use Rattle.verdict_record.specs.ObligationPlace.{place_of};
 
 // The four kinds of obligations, classes 1 to 4.
-#[derive(Drop)]
+#[derive(Clone, Copy)]
 pub enum Obligation {
     Start {
         thread: usize,
@@ -26,7 +26,7 @@ pub enum Obligation {
 }
 
 // The numbers by which a verdict names an obligation or a claim; those that don't apply are 0.
-#[derive(Drop)]
+#[derive(Clone, Copy)]
 pub struct Place {
     pub class: usize,
     pub thread: usize,

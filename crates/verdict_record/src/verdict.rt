@@ -7,7 +7,7 @@ use crate::obligation::{NOWHERE, Obligation, Place, place_of};
 use image_frames::fault::Fault;
 
 // The four kinds of verdicts.
-#[derive(Drop)]
+#[derive(Clone, Copy)]
 pub enum Verdict {
     // All obligations, `count` of them, are met, and every claim is sustained.
     Accepted {
@@ -40,7 +40,7 @@ impl Verdict {
 }
 
 // The nine numbers, in the order of the record; those that don't apply are 0.
-#[derive(Drop)]
+#[derive(Clone, Copy)]
 pub struct Fields {
     pub code: u16,
     pub record: usize,
