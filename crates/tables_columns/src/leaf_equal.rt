@@ -18,7 +18,7 @@ impl Walk {
 }
 
 // After two nodes: whether they differ, the positions of the next two, and the number of parts still to be compared.
-#[derive(Drop)]
+#[derive(Clone, Copy)]
 pub struct Step {
     pub differ: bool,
     pub first: usize,

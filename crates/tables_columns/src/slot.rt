@@ -21,7 +21,7 @@ impl Slots {
 
 // A leaf. Without parts it is given by its code, in `place`, and its operand, with 0 for `left`; else by its position, nested at most
 // `left` deep.
-#[derive(Drop)]
+#[derive(Clone, Copy)]
 pub struct Slot {
     pub place: usize,
     pub operand: usize,

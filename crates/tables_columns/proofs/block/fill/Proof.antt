@@ -7,10 +7,10 @@ use Rattle.limits.proofs.BranchTests.{tests}
 use Rattle.tables_columns.proofs.block.fill.Statement.{statement}
 use Rattle.tables_columns.proofs.block.fill.Tie as tie
 
-abbrev invariant-loop : tie.invariant-loop
+abbrev invariant-loop : tie.invariant-loop-i
 invariant-loop value n out₀ i₀ out i = (i ≤ n) × ((take i out ≡ constant value i) × (length out ≡ length out₀))
 
-abbrev decreases-loop : tie.decreases-loop
+abbrev decreases-loop : tie.decreases-loop-i
 decreases-loop value n out₀ i₀ out i = n - i
 
 pub fill_spec : {M : Type 1} → statement M

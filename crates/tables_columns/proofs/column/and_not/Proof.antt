@@ -7,10 +7,10 @@ use Rattle.limits.proofs.BranchTests.{tests}
 use Rattle.tables_columns.proofs.column.and_not.Statement.{statement}
 use Rattle.tables_columns.proofs.column.and_not.Tie as tie
 
-abbrev invariant-loop : tie.invariant-loop
+abbrev invariant-loop : tie.invariant-loop-i
 invariant-loop n a₀ b i₀ a i = (i ≤ n) × ((take i a ≡ denied i a₀ b) × ((drop i a ≡ drop i a₀) × (length a ≡ length a₀)))
 
-abbrev decreases-loop : tie.decreases-loop
+abbrev decreases-loop : tie.decreases-loop-i
 decreases-loop n a₀ b i₀ a i = n - i
 
 pub and_not_spec : {M : Type 1} → statement M

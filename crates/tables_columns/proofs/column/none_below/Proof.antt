@@ -7,10 +7,10 @@ use Rattle.limits.proofs.BranchTests.{tests}
 use Rattle.tables_columns.proofs.column.none_below.Statement.{statement}
 use Rattle.tables_columns.proofs.column.none_below.Tie as tie
 
-abbrev invariant-loop : tie.invariant-loop
+abbrev invariant-loop : tie.invariant-loop-i
 invariant-loop a n found₀ i₀ found i = (i ≤ n) × (found ≡ cond (none_below a i) 0 1)
 
-abbrev decreases-loop : tie.decreases-loop
+abbrev decreases-loop : tie.decreases-loop-i
 decreases-loop a n found₀ i₀ found i = n - i
 
 pub none_below_spec : {M : Type 1} → statement M

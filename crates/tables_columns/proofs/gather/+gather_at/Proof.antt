@@ -37,71 +37,23 @@ gather-at-calls t = (
   end-at-reads.Learnt,
 )
 
-gather-at-returns : (t : ℕ) → gather-at-lts.Need-returns (gather-at-calls t) (gather-at-at t) gather-at.Post
-gather-at-returns t c = search (gathers, tests)
-
-gather-at-node-at-requires : (t : ℕ) → gather-at-lts.Need-node-at-requires (gather-at-calls t) (gather-at-at t) gather-at.Post
-gather-at-node-at-requires t c κs = search (gathers, tests)
-
-gather-at-contains-requires : (t : ℕ) → gather-at-lts.Need-contains-requires (gather-at-calls t) (gather-at-at t) gather-at.Post
-gather-at-contains-requires t c κs = search (gathers, tests)
-
-gather-at-add-leaf-requires : (t : ℕ) → gather-at-lts.Need-add-leaf-requires (gather-at-calls t) (gather-at-at t) gather-at.Post
-gather-at-add-leaf-requires t c κs = search (gathers, tests)
-
-gather-at-returns-2 : (t : ℕ) → gather-at-lts.Need-returns-2 (gather-at-calls t) (gather-at-at t) gather-at.Post
-gather-at-returns-2 t c = search (gathers, tests)
-
-gather-at-returns-3 : (t : ℕ) → gather-at-lts.Need-returns-3 (gather-at-calls t) (gather-at-at t) gather-at.Post
-gather-at-returns-3 t c = search (gathers, tests)
-
-gather-at-sub-gather-at : (t : ℕ) → gather-at-lts.Need-overflow-sub-gather-at (gather-at-calls t) (gather-at-at t) gather-at.Post
-gather-at-sub-gather-at t c = search (gathers, tests)
-
-gather-at-gather-at-requires : (t : ℕ) → gather-at-lts.Need-gather-at-requires (gather-at-calls t) (gather-at-at t) gather-at.Post
-gather-at-gather-at-requires t c κs = search (gathers, tests)
-
-gather-at-returns-4 : (t : ℕ) → gather-at-lts.Need-returns-4 (gather-at-calls t) (gather-at-at t) gather-at.Post
-gather-at-returns-4 t c = search (gathers, tests)
-
-gather-at-sub-end-at : (t : ℕ) → gather-at-lts.Need-overflow-sub-end-at (gather-at-calls t) (gather-at-at t) gather-at.Post
-gather-at-sub-end-at t c = search (gathers, tests)
-
-gather-at-end-at-requires : (t : ℕ) → gather-at-lts.Need-end-at-requires (gather-at-calls t) (gather-at-at t) gather-at.Post
-gather-at-end-at-requires t c κs = search (gathers, tests)
-
-gather-at-sub-gather-at-2 : (t : ℕ) → gather-at-lts.Need-overflow-sub-gather-at-2 (gather-at-calls t) (gather-at-at t) gather-at.Post
-gather-at-sub-gather-at-2 t c = search (gathers, tests)
-
-gather-at-gather-at-requires-2 : (t : ℕ) → gather-at-lts.Need-gather-at-requires-2 (gather-at-calls t) (gather-at-at t) gather-at.Post
-gather-at-gather-at-requires-2 t c κs = search (gathers, tests)
-
-gather-at-sub-gather-at-3 : (t : ℕ) → gather-at-lts.Need-overflow-sub-gather-at-3 (gather-at-calls t) (gather-at-at t) gather-at.Post
-gather-at-sub-gather-at-3 t c = search (gathers, tests)
-
-gather-at-gather-at-requires-3 : (t : ℕ) → gather-at-lts.Need-gather-at-requires-3 (gather-at-calls t) (gather-at-at t) gather-at.Post
-gather-at-gather-at-requires-3 t c κs = search (gathers, tests)
-
-gather-at-returns-5 : (t : ℕ) → gather-at-lts.Need-returns-5 (gather-at-calls t) (gather-at-at t) gather-at.Post
-gather-at-returns-5 t c = search (gathers, tests)
-
 pub +gather_at_spec : {M : Type 1} → statement M
 +gather_at_spec = close μ-gather-at λ t. gather-at-lts.spec (gather-at-calls t)
     (gather-at-at t)
     gather-at.Post
-    (gather-at-returns t)
-    (gather-at-node-at-requires t)
-    (gather-at-contains-requires t)
-    (gather-at-add-leaf-requires t)
-    (gather-at-returns-2 t)
-    (gather-at-returns-3 t)
-    (gather-at-sub-gather-at t)
-    (gather-at-gather-at-requires t)
-    (gather-at-returns-4 t)
-    (gather-at-sub-end-at t)
-    (gather-at-end-at-requires t)
-    (gather-at-sub-gather-at-2 t)
-    (gather-at-gather-at-requires-2 t)
-    (gather-at-sub-gather-at-3 t)
-    (gather-at-gather-at-requires-3 t)
-    (gather-at-returns-5 t)
+    (λ c. search (gathers, tests))
+    (λ c κs. search (gathers, tests))
+    (λ c κs. search (gathers, tests))
+    (λ c κs. search (gathers, tests))
+    (λ c. search (gathers, tests))
+    (λ c. search (gathers, tests))
+    (λ c. search (gathers, tests))
+    (λ c κs. search (gathers, tests))
+    (λ c. search (gathers, tests))
+    (λ c. search (gathers, tests))
+    (λ c κs. search (gathers, tests))
+    (λ c. search (gathers, tests))
+    (λ c κs. search (gathers, tests))
+    (λ c. search (gathers, tests))
+    (λ c κs. search (gathers, tests))
+    (λ c. search (gathers, tests))

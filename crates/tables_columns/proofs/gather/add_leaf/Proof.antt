@@ -12,8 +12,8 @@ add_leaf_spec =
     (λ c. search (add_leaf_branches, tests))
     (λ c κs. search rules)
     (λ c. (
-      put_there _ _ _ _ _ c.before.slot-within.result c.before.before.before.before.if1.false
-          c.before.before.before.if2.false c.before.slot-within.ensures c.if3.true,
+      put_there _ _ _ _ _ c.slot_within.result c.if-left-eq0.false c.if-n-gt-COUNT.false
+          c.slot_within.ensures c.if-slot_within-n.true,
       search tests,
     ))
     (λ c κs. search rules)

@@ -4,10 +4,10 @@ use Rattle.limits.proofs.BranchTests.{tests}
 use Rattle.tables_columns.proofs.leaf_equal.same_leaf.Statement.{statement}
 use Rattle.tables_columns.proofs.leaf_equal.same_leaf.Tie as tie
 
-abbrev invariant-loop : tie.invariant-loop
+abbrev invariant-loop : tie.invariant-loop-due
 invariant-loop s a m b k p₀ q₀ due₀ left₀ p q due left = Open s a m b k p q due left × (due + left ≤ 17)
 
-abbrev decreases-loop : tie.decreases-loop
+abbrev decreases-loop : tie.decreases-loop-due
 decreases-loop s a m b k p₀ q₀ due₀ left₀ p q due left = left
 
 pub same_leaf_spec : {M : Type 1} → statement M

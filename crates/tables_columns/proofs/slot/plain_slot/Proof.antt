@@ -7,11 +7,11 @@ use Rattle.limits.proofs.BranchTests.{tests}
 use Rattle.tables_columns.proofs.slot.plain_slot.Statement.{statement}
 use Rattle.tables_columns.proofs.slot.plain_slot.Tie as tie
 
-abbrev invariant-loop : tie.invariant-loop
+abbrev invariant-loop : tie.invariant-loop-j
 invariant-loop s code operand slots j₀ j = (j ≤ 12) × (slot_of s slots (node code operand none none) ≡ slot_from s slots (12 - j) j
     (node code operand none none))
 
-abbrev decreases-loop : tie.decreases-loop
+abbrev decreases-loop : tie.decreases-loop-j
 decreases-loop s code operand slots j₀ j = 12 - j
 
 pub plain_slot_spec : {M : Type 1} → statement M
