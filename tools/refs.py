@@ -1,12 +1,12 @@
 #!/usr/bin/env python3
 """Every path, identifier and command that a document names in backticks or in a block of commands exists.
 
-Documents are the pages (*.md), crates.txt and the header; the notes of landings tell what was then, and are left out.
+Documents are the pages (*.md), crates.txt and the header; the notes of landings and of the port tell what was then, and are left out.
 
 - A word with a slash is a file or a folder, seen from the root, from the document's folder, from crates/ or rust/, or an edit CRATE/NAME.
 - CRATE::MODULE::ITEM is an item of that crate's module; of other paths each part has to be a word of some source.
 - Any other name is a word of some source, a crate, an edit or a file's name.
-- Commands: `rt .. CRATE`, `cargo .. -p PACKAGE`, `cargo .. --bin PROGRAM`, `outline COMMAND` and scripts have to be there.
+- Commands: `rt COMMAND`, `rt .. CRATE`, `cargo .. -p PACKAGE`, `cargo .. --bin PROGRAM`, `outline COMMAND` and scripts have to be there.
 """
 import os
 import re
@@ -14,14 +14,17 @@ import subprocess
 import sys
 
 SOURCES = ('.rt', '.antt', '.rs', '.sh', '.py', '.c', '.h', '.toml', '.edit', '.mjs', '.css', '.json', '.outline', '.program')
-# What commands of a document write, and what stands for a name.
+# What commands of a document write, what `rt` writes in a crate's folder, and what stands for a name.
 WRITTEN = ('target/', '/', 'http')
+BY_RT = re.compile(r'(?:crates/(\w+)/)?out(?:/\w+(?:\.a)?)?/?')
 PLACEHOLDER = re.compile(r'[*<>{}()$…]|\.\.\.|\b[A-Z]{3,}\b')
 # Names of C, of Rust's library, of the Linux kernel and of litmus tests, which are no names of this repository.
 FOREIGN = re.compile(
     r'memory_order_\w+|atomic_\w+|_(relaxed|acquire|release|weak|or|and|xor)|Atomic\w+::\w+|SeqCst|UnsafeCell'
     r'|compare_exchange(_weak)?|fetch_\w+|(READ|WRITE)_ONCE|smp_\w+|xchg|sb|iriw|relaxed-behind|fetch-add-behind|two-adds')
-PROVER = ('check', 'dev', 'staticlib', 'must-fail', 'try', 'goals', 'mir')
+# Commands of `rt`; the first two take names of crates.
+OF_CRATES = ('ci', 'must-fail')
+PROVER = OF_CRATES + tuple('all check doc expand fmt help lemma lib names new plant run seed test tidy try verdict version'.split())
 
 
 def tracked():
@@ -84,8 +87,10 @@ class Repository:
     def command_fault(self, line):
         """What is missing of a command line, or nothing."""
         words = line.split('#')[0].split()
-        if words[:1] == ['rt'] and len(words) > 2 and words[1] in PROVER:
-            return next((f'no crate {word}' for word in words[2:] if is_name(word) and word not in self.crates), None)
+        if words[:1] == ['rt'] and len(words) > 1 and is_name(words[1]):
+            named = words[2:] if words[1] in OF_CRATES else []
+            lacking = next((f'no crate {word}' for word in named if is_name(word) and word not in self.crates), None)
+            return lacking if words[1] in PROVER else f'no command {words[1]}'
         if words[:1] == ['cargo']:
             for option, there in (('-p', self.packages), ('--bin', self.programs)):
                 for one, name in zip(words, words[1:]):
@@ -95,8 +100,14 @@ class Repository:
         if words and (words[0] == 'outline' or words[0].endswith('/outline')) and len(words) > 1:
             return None if not is_name(words[1]) or words[1] in self.commands else f'no command {words[1]}'
         if words and re.fullmatch(r'(\./)?(tools|examples|crates|\.ci)/[\w./-]*[\w-]', words[0]):
-            return None if words[0].removeprefix('./') in self.files else f'no script {words[0]}'
+            there = words[0].removeprefix('./') in self.files or self.is_by_rt(words[0])
+            return None if there else f'no script {words[0]}'
         return None
+
+    def is_by_rt(self, path):
+        """Whether `rt` writes this: an archive, a program or a folder in a crate's `out`."""
+        found = BY_RT.fullmatch(path)
+        return bool(found) and (found.group(1) is None or found.group(1) in self.crates)
 
 
 def ends(folder):
@@ -131,7 +142,8 @@ def fault(repository, text, document):
     if '::' in text:
         return None if repository.has_item(text) else 'no such item'
     if '/' in text and '=' not in text:
-        return None if repository.has_path(text.split(':')[0], document) else 'no such path'
+        there = repository.has_path(text.split(':')[0], document) or repository.is_by_rt(text)
+        return None if there else 'no such path'
     if re.fullmatch(r"\.?[^\W\d][\w'\-]*", text):
         return None if text.lstrip('.') in repository.words else 'no such name'
     return None
@@ -155,7 +167,7 @@ def faults(repository, document):
 def main():
     os.chdir(os.path.join(os.path.dirname(os.path.abspath(__file__)), '..'))
     repository = Repository()
-    pages = [name for name in repository.files if name.endswith('.md') and not name.startswith('docs/landings/')]
+    pages = [name for name in repository.files if name.endswith('.md') and not name.startswith(('docs/landings/', 'docs/PORT'))]
     documents = sorted(pages) + ['crates.txt', 'include/hidokpalu.h']
     count = 0
     for document in documents:
