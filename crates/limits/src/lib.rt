@@ -1,4 +1,6 @@
 // The limits of an image, total reads of its numbers, and range tests on them.
+#![tactic(auto)]
+
 pub mod range;
 pub mod read;
 

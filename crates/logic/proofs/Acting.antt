@@ -4,7 +4,7 @@ use mathlib.Core.List.{[], ◌∷◌, map}
 use Prim.Native.Nat.{ℕ}
 use Rattle.semantics.specs.Base.{upd}
 use Rattle.semantics.proofs.Computed.{nothing, at_points, mixed, sender, receiver, message_passing}
-use Rattle.logic.specs.Obligations.{Obligation, Obligation.start, Obligation.step, Obligation.taken, Obligation.interference, interferences}
+use Rattle.logic.specs.Obligations.{Obligation, Obligation.interference, interferences}
 
 -- CLASS 4 of `mixed`: by acting thread, acting point, asserting thread, asserting point
 by_actor : interferences mixed ≡

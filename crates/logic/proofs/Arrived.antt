@@ -12,7 +12,7 @@ use Rattle.logic.proofs.Intervals.{sat_drop}
 use Rattle.semantics.proofs.Invariant.{Wf, view_wf}
 use Rattle.semantics.specs.Base.{upd}
 use Rattle.semantics.specs.Eval.{Env, test}
-use Rattle.semantics.specs.Formula.{Test, Interval, Assertion, Formula.unsync, Formula.cov, Formula.box, Formula.chop, Formula.one}
+use Rattle.semantics.specs.Formula.{Test, Interval, Assertion, Formula.box, Formula.chop, Formula.one}
 use Rattle.semantics.specs.Machine.{View, State, Program, at, later, join, with_view, read_view}
 use Rattle.semantics.specs.Names.{startless, names}
 use Rattle.semantics.specs.Replace.{Note}

@@ -5,7 +5,7 @@ use mathlib.Core.List.{List, [], ◌∷◌, map}
 use mathlib.Core.Logic.{◌⊎◌, inl, inr}
 use Prim.Native.Nat.{ℕ, suc, ◌+◌, ◌%◌, ◌<◌}
 use native.Mathlib.Omega.{arith}
-use lib.Dec.{T, eqb, ltb, ltb→lt, leb→le}
+use lib.Dec.{T, eqb, ltb→lt, leb→le}
 use borrow.Author.Tests.{eq-eqb}
 use lib.ListN.{take, drop}
 use Rattle.semantics.specs.Base.{All, all, Within, within}
@@ -19,7 +19,6 @@ use Rattle.semantics.specs.Machine.{View, State, Program, Mode, Mode.store, Mode
 use Rattle.semantics.specs.Truth.{Sat, True, Prospect, Sees, Names}
 use Rattle.logic.specs.Statement.{Statement, inside, implies, triple, pair, is_pair, first, half, admitted_at, admitted, is_imp, imp_of}
 use Rattle.logic.specs.Rule.{Rule}
-use Rattle.logic.specs.Inference
 use Rattle.logic.specs.Inference.{Inference, newest, fresh_value, C, apart, keeps}
 use Rattle.logic.specs.WellFormed.{proper_value, lacks_result, proper_access, proper}
 use Rattle.semantics.proofs.Base.{upd_same, upd_other, not_eqb, and_left, and_right, and_both, is_true, all_All, map_or}

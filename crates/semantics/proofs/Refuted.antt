@@ -1,13 +1,12 @@
 -- The claim about every run is false of wrong outlines, shown by a run of a small program for each.
-use mathlib.Core.Bool.{Bool}
 use mathlib.Core.List.{List, [], ◌∷◌}
 use Prim.Native.Nat.{ℕ}
 use native.Mathlib.Omega.{arith}
 use lib.Dec.{eqb}
 use Rattle.semantics.specs.Base.{upd}
-use Rattle.semantics.specs.Formula.{Formula, Assertion, Formula.const, Formula.reg, Formula.equal, Formula.holds}
+use Rattle.semantics.specs.Formula.{Formula, Formula.const, Formula.reg, Formula.equal, Formula.holds}
 use Rattle.semantics.specs.Machine.{Program, Access.none, Instr.act, Step, begin}
-use Rattle.semantics.specs.EveryRun.{Outline, EveryRun}
+use Rattle.semantics.specs.EveryRun.{EveryRun}
 use Rattle.semantics.proofs.Starts.{begins}
 
 -- two threads; each adds 1 to register 1, which starts at 0, and is then at its last point; register 2 starts anywhere
