@@ -2,14 +2,14 @@
 """Weakens every field of every promise, one at a time, and says who refuses it.
 
     tools/fields.py                  lists the weaker fields, a line each
-    tools/fields.py --try [CRATE..]  makes each change in a copy of the tree, of every crate or of those that are named, and runs `rt dev`
+    tools/fields.py --try [CRATE..]  makes each change in a copy of the tree, of every crate or of those that are named, and runs `rt check`
     tools/fields.py --all [CRATE..]  makes one change to every field of a file at once, which is quicker, and says which fields have a
                                      consequence of their own that fails
 
 A weaker field has the same shape and says less: `a ≡ b` becomes `a ≡ a`, a bound in a hypothesis becomes 0, and what is no equation is
 said of nothing. A change counts as refused by a consequence if a file of consequences or of facts worked out by hand has an error of its
-own; as refused by the proof if only the proof that makes the promise has one; and as accepted if there is none. What is proved under
-target/ is taken over.
+own; as refused by the proof if only the proof that makes the promise has one; and as accepted if there is none. `rt check` begins in the
+copy with what it has kept of the same crates on this machine.
 """
 import os
 import re
@@ -40,6 +40,12 @@ PROMISES = [
 
 # files that take a promise apart
 USERS = ("Consequences", "Starts", "Refuted", "ReadBack", "Worked")
+
+# an import of the successor of a number
+SUC = re.compile(r"Rattle\.std\.specs\.Prelude\.\{[^}]*\bsuc\b")
+
+# what the prover says of a file of the crate
+ERROR = r"^(?:\./)?((?:src|specs|proofs)/\S+?):\d+:\d+: error: "
 
 # types of fields that are given and promise nothing
 GIVEN = {"Image", "Finding", "Document", "Answer", "Bill", "List Write"}
@@ -139,8 +145,8 @@ def changes(root, chosen):
                 for done, new in constructor(kind) if data else weaker(kind):
                     first = lines[at].split(" : ")[0]
                     changed = "\n".join(lines[:at] + [f"{first} : {new}"] + lines[end:])
-                    if "suc (" in new and not re.search(r"Prim\.Native\.Nat\.\{[^}]*\bsuc\b", text):
-                        changed = "use Prim.Native.Nat.{suc}\n" + changed
+                    if "suc (" in new and not SUC.search(text):
+                        changed = "use Rattle.std.specs.Prelude.{suc}\n" + changed
                     yield crate, file, name, field, done, changed, new
 
 
@@ -150,10 +156,10 @@ def attempt(copy, crate, file, changed):
     kept = open(path, encoding="utf-8").read()
     open(path, "w", encoding="utf-8").write(changed)
     try:
-        run = subprocess.run(["rt", "dev", crate], cwd=copy, capture_output=True, text=True)
+        run = subprocess.run(["rt", "check"], cwd=os.path.join(copy, "crates", crate), capture_output=True, text=True)
     finally:
         open(path, "w", encoding="utf-8").write(kept)
-    errors = re.findall(r"crates/[^/]+/(\S+?):\d+:\d+: error: (.*)", run.stdout + run.stderr)
+    errors = re.findall(ERROR + "(.*)", run.stdout + run.stderr, re.M)
     own = [(at, what) for at, what in errors if "was not admitted" not in what]
     users = [(at, what) for at, what in own if any(user in at for user in USERS)]
     if any(at.startswith("specs/") for at, _ in own):
@@ -178,14 +184,14 @@ def together(copy, crate, file, names):
                 weakened.append((at, end, name, field, lines[at].split(" : ")[0] + " : " + new))
     for at, end, _, _, new in sorted(weakened, reverse=True):
         lines[at:end] = [new]
-    if any("suc (" in change[4] for change in weakened) and not re.search(r"Prim\.Native\.Nat\.\{[^}]*\bsuc\b", kept):
-        lines.insert(0, "use Prim.Native.Nat.{suc}")
+    if any("suc (" in change[4] for change in weakened) and not SUC.search(kept):
+        lines.insert(0, "use Rattle.std.specs.Prelude.{suc}")
     open(path, "w", encoding="utf-8").write("\n".join(lines))
     try:
-        run = subprocess.run(["rt", "dev", crate], cwd=copy, capture_output=True, text=True)
+        run = subprocess.run(["rt", "check"], cwd=os.path.join(copy, "crates", crate), capture_output=True, text=True)
     finally:
         open(path, "w", encoding="utf-8").write(kept)
-    errors = re.findall(r"crates/[^/]+/(\S+?):\d+:\d+: error: `(\S+?)`: (.*)", run.stdout + run.stderr)
+    errors = re.findall(ERROR + r"`(\S+?)`(?:: | is )(.*)", run.stdout + run.stderr, re.M)
     failing = {}
     for at, theorem, what in errors:
         if any(user in at for user in USERS) and "was not admitted" not in what:
@@ -210,11 +216,9 @@ def main():
         return
     with tempfile.TemporaryDirectory() as copy:
         shutil.copy(os.path.join(root, "crates.txt"), copy)
-        left_out = shutil.ignore_patterns("must-fail", "also-refused")
+        left_out = shutil.ignore_patterns("must-fail", "also-refused", "out")
         shutil.copytree(os.path.join(root, "crates"), os.path.join(copy, "crates"), ignore=left_out)
-        for part in ("rlib", "stamp", "bin", "log"):
-            if os.path.isdir(os.path.join(root, "target", part)):
-                shutil.copytree(os.path.join(root, "target", part), os.path.join(copy, "target", part))
+        os.mkdir(os.path.join(copy, ".git"))
         for crate, file, names in PROMISES if at_once else []:
             for name, field, cited in together(copy, crate, file, names) if not chosen or crate in chosen else []:
                 print(f"{'consequence' if cited else 'not cited':12} {crate} {name}.{field} {' '.join(cited)}", flush=True)
