@@ -24,7 +24,6 @@ use Rattle.image_bodies.specs.PointCounts.{obligation_count}
 use Rattle.image_bodies.specs.ListBody as Lists
 use Rattle.image.specs.Decode.{sizes_of, decoded}
 use Rattle.image.specs.declared.decode.Decoded.{Decoded}
-use Rattle.image.specs.declared.decode.Decoded.TheVariants as Decoded
 use Rattle.logic_outline.specs.Lines.{marked}
 use Rattle.logic_outline.specs.Verdict as Outline
 use Rattle.logic_outline.specs.Verdict.{Image, Judgement, met, failed, judgement, Finding, denied, judge_claims, behind_obligations}

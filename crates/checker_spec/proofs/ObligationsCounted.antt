@@ -7,7 +7,7 @@ use lib.Dec.{eqb}
 use lib.ListN.{length, length-append, length-map}
 use Rattle.semantics.specs.Base.{Within, below, up_to}
 use Rattle.semantics.specs.Machine.{Program, Instr, Instr.act, Instr.branch}
-use Rattle.logic.specs.Obligations.{Obligation, Obligation.start, flat, own, acting, instructed, starts, steps, interferences, obligations}
+use Rattle.logic.specs.Obligations.{Obligation, flat, own, acting, instructed, starts, steps, interferences, obligations}
 use Rattle.logic.proofs.Reordered.{reordered_length}
 use Rattle.logic.proofs.Order.{actions, formerly, reordered}
 use Rattle.limits.specs.Limits as Limits

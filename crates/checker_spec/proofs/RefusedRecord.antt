@@ -21,7 +21,6 @@ use Rattle.image_frames.specs.declared.fault.Checked.{Checked}
 use Rattle.image_frames.specs.declared.fault.Checked.TheVariants.{Passed, Faulty}
 use Rattle.image_frames.specs.declared.frame.Seen.{Seen}
 use Rattle.image_frames.specs.declared.walk.Framing.{Framing}
-use Rattle.image_frames.specs.declared.walk.Framing.TheVariants as Framing
 use Rattle.image_frames.proofs.PassedFrame.{framed}
 use Rattle.image_frames.proofs.KindCounts.{counts_few}
 use Rattle.image_header.specs.declared.sizes.Sizes.{Sizes}

@@ -1,7 +1,7 @@
 -- The starred cases are those that their names say: how many there are, how deep a formula is, how many leaves and rows a line has.
 use mathlib.Core.Path.{◌≡◌, refl}
-use mathlib.Core.List.{List, [], ◌∷◌, ◌++◌, map}
-use Prim.Native.Nat.{ℕ, zero, suc, ◌+◌, ◌/◌, ◌%◌}
+use mathlib.Core.List.{[], ◌∷◌, map}
+use Prim.Native.Nat.{ℕ, zero, suc, ◌/◌, ◌%◌}
 use native.Mathlib.Decide.{ℕ_discrete}
 use lib.ListN.{length}
 use Rattle.semantics.specs.Formula.{Formula, Value, Test, Formula.const, Formula.reg, Formula.word, Formula.sum, Formula.equal, Formula.less, Formula.and, Formula.or, Formula.unsync, Formula.start, Formula.holds, encode, nesting, same}
@@ -9,7 +9,7 @@ use Rattle.semantics.specs.Names.{names as namesIn}
 use Rattle.logic.specs.Rows.{same_name, is_in, distinct, row_count, choices}
 use Rattle.logic.specs.Table.{same_leaf, leaves_all}
 use Rattle.checker_starred.specs.StarredImage.{entailed_by_table, entailed_by_rows}
-use Rattle.checker_starred.specs.StarredCases.{Case, Name, small_image, small_without_line, empty_image, output_21, output_22, nesting_16, nesting_17, leaves_10, leaves_11, four_names, four_with_flag, three_of_16, three_of_16_with_flag, twelve_of_2, thirteen_of_2, case_of, names, table}
+use Rattle.checker_starred.specs.StarredCases.{Name, small_image, small_without_line, empty_image, output_21, output_22, nesting_16, nesting_17, leaves_10, leaves_11, four_names, four_with_flag, three_of_16, three_of_16_with_flag, twelve_of_2, thirteen_of_2, case_of, names, table}
 
 -- fifteen cases
 counted : length table ≡ 15

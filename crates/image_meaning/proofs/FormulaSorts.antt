@@ -6,7 +6,7 @@ use Prim.Native.Nat.{ℕ, ◌≤◌}
 use lib.Dec.{T, eqb}
 use lib.ListN.{length, get_or}
 use borrow.Author.Tests.{not-true, not-false}
-use Rattle.semantics.specs.Formula.{Sort, Formula}
+use Rattle.semantics.specs.Formula.{Sort}
 use Rattle.semantics.specs.Names as Names
 use Rattle.semantics.specs.Names.{only, is_reg, not_reg}
 use Rattle.semantics.specs.Eval.{bounded}
@@ -17,7 +17,6 @@ use Rattle.formula.specs.Tree.{Tree, parse_tree}
 use Rattle.formula.specs.Reader.{malformed, fault_at, sort_of, reading_of}
 use Rattle.formula.specs.declared.reader.Counts.{Counts}
 use Rattle.formula.specs.declared.reader.Reading.{Reading}
-use Rattle.formula.specs.declared.reader.Reading.TheVariants as Reading
 use Rattle.image_frames.specs.declared.fault.Checked.TheVariants.{Passed}
 use Rattle.formula_compare.specs.Occurs.{occurs, register, start, shared}
 use Rattle.image_header.specs.declared.sizes.Sizes.{Sizes}

@@ -9,7 +9,7 @@ use lib.Dec.{eqb, eqb-suc-suc}
 use lib.ListN.{length, get_or, length-append, length-map}
 use Rattle.semantics.specs.Machine.{Program, Instr, Instr.act, Instr.branch}
 use Rattle.logic.specs.Statement as Statement
-use Rattle.logic.specs.Obligations.{Obligation, Obligation.start, flat, own, acting, instructed, starts, steps, interferences, obligations}
+use Rattle.logic.specs.Obligations.{Obligation, flat, own, acting, instructed, starts, steps, interferences, obligations}
 use Rattle.semantics.specs.Base.{below, up_to}
 use Rattle.logic.proofs.Reordered.{reordered_length}
 use Rattle.logic.proofs.Order.{actions, formerly, reordered}

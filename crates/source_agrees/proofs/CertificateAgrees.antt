@@ -1,18 +1,16 @@
 -- The lines, the named lines and the claims of a sound image are those of its source.
 use mathlib.Core.Path.{◌≡◌, refl, ap, sym, ◌∙◌, subst}
 use mathlib.Core.Bool.{Bool, true, false, cond, true≢false}
-use mathlib.Core.List.{List, [], ◌∷◌, map}
+use mathlib.Core.List.{List, [], map}
 use Prim.Native.Nat.{ℕ, zero, suc, ◌+◌, ◌≤◌, ◌<◌}
 use native.Mathlib.Omega.{arith}
 use lib.Dec.{eqb, ltb, leb}
-use lib.ListN.{length, get_or, take, drop, length-map}
+use lib.ListN.{length, get_or, drop, length-map}
 use lib.Seq.{get_or-drop, get_or-take}
 use borrow.Author.Tests.{eqb-true}
-use Rattle.semantics.specs.Formula.{Sort, Formula, Interval}
+use Rattle.semantics.specs.Formula.{Sort}
 use Rattle.logic.specs.Statement.{Statement, inside, implies, triple, taking}
 use Rattle.logic.specs.RuleNumbers.{rule_of}
-use Rattle.logic.specs.Obligations.{obligations}
-use Rattle.logic_outline.specs.Lines as Lines
 use Rattle.limits.specs.Numbers.{nth}
 use Rattle.formula.specs.Codes as Codes
 use Rattle.formula.specs.Reader.{sort_of}
@@ -25,21 +23,18 @@ use Rattle.image_bodies.specs.declared.line.Form.{Form}
 use Rattle.image_bodies.specs.declared.line.Form.TheVariants.{Triple, Implication, Inclusion, Pair, Unlisted}
 use Rattle.image_bodies.specs.Line.{form_of, placed}
 use Rattle.image_bodies.specs.LineBody.{sort_at, sorted_by}
-use Rattle.image_bodies.specs.ListBody.{outlined_at}
 use Rattle.image.specs.Decode.{sizes_of, decoded}
 use Rattle.image.specs.declared.decode.Decoded.TheVariants.{Sound}
 use Rattle.image_meaning.specs.Formulas.{formula}
 use Rattle.image_meaning.specs.Certificate.{left, right, saying, line_of, line_body}
-use Rattle.image_meaning.specs.Image.{claim_in, claim_body, claim_place, named_line, image_of}
-use Rattle.image_meaning.specs.Program as Content
+use Rattle.image_meaning.specs.Image.{claim_body, claim_place, named_line, image_of}
 use Rattle.image_meaning.proofs.LinesAdmitted.{numbers_passed, sorted_passed, in_range, triple_there}
 use Rattle.image_meaning.proofs.ObligationCount.{count_is}
 use Rattle.image_meaning.proofs.WellFormedProgram.{outlined_fine}
 use Rattle.trim_spec.specs.Canonical.{Bytes}
-use Rattle.trim_spec.specs.Document.{LineRecord, ClaimRecord}
 use Rattle.trim_spec.specs.Parse.{document_of, part, line_record, claim_record, sizes}
 use Rattle.source.specs.Source.{Listed, Line, Claimed, Source}
-use Rattle.source.specs.Meaning.{listed, assertion, program_of}
+use Rattle.source.specs.Meaning.{assertion, program_of}
 use Rattle.source.specs.Certificate.{as_interval, no_line, interval, hoare, statement, line_at}
 use Rattle.source.specs.Means.{no_claim, Means}
 use Rattle.source_agrees.specs.SourceOf.{listed_of, claim_of, source_of}

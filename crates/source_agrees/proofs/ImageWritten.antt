@@ -46,7 +46,6 @@ use Rattle.source.specs.Written.{written}
 use Rattle.source.proofs.PrefixForm.{formula_encode}
 use Rattle.source_agrees.specs.SourceOf.{listed_of, threads_of, line_of, claim_of, source_of}
 use Rattle.source_agrees.proofs.DocumentWritten.{twos_same, line_same, claim_same, framed_same, alike, mapped, total, outline_same, threads_same}
-use Rattle.source_agrees.proofs.HeaderWritten as Head
 use Rattle.source_agrees.proofs.HeaderWritten.{header_same}
 
 each_left : {A : Type 0} (F : A → Type 0) (d : A) (l m : List A) → Each F d (l ++ m) → Each F d l

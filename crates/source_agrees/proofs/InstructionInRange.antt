@@ -5,11 +5,11 @@ use mathlib.Core.List.{List, [], map}
 use mathlib.Core.Logic.{◌≢◌}
 use Prim.Native.Nat.{ℕ, zero, suc, ◌+◌, ◌≤◌}
 use native.Mathlib.Omega.{arith}
-use lib.Dec.{T, eqb, eqb→eq}
+use lib.Dec.{eqb}
 use lib.ListN.{length, get_or}
 use borrow.Author.Tests.{eqb-true, eqb-false, ne_eqb, not-true}
-use Rattle.semantics.specs.Formula.{Sort, Formula, Value, Test}
-use Rattle.semantics.specs.Names.{only, is_reg, not_reg}
+use Rattle.semantics.specs.Formula.{Sort, Value, Test}
+use Rattle.semantics.specs.Names.{not_reg}
 use Rattle.semantics.proofs.Base.{not_eqb}
 use Rattle.limits.specs.Numbers.{nth, within}
 use Rattle.limits.proofs.PassedTests.{and_true, within_true}
@@ -26,13 +26,13 @@ use Rattle.image_header.specs.declared.sizes.Sizes.{Sizes}
 use Rattle.image_header.specs.declared.instruction.Half.{Half}
 use Rattle.image_header.specs.declared.instruction.Fields.{Fields}
 use Rattle.image_header.specs.declared.instruction.Instruction.{Instruction as Coded}
-use Rattle.image_bodies.specs.FormulaUse.{tree_of, plain}
+use Rattle.image_bodies.specs.FormulaUse.{tree_of}
 use Rattle.image_bodies.specs.ThreadBody.{wanted, formula_sorted, sorted, target, register_owned, formula_owned, owned, result_absent}
 use Rattle.image_meaning.specs.Formulas.{formula}
 use Rattle.image_meaning.proofs.RecordsChecked.{Checks}
 use Rattle.image_meaning.proofs.FormulaSorts.{formula_tree, value_regs, value_lacks, test_regs}
 use Rattle.image_meaning.proofs.WellFormedProgram.{made, fields_in, ranged_both, formula-sorted, sorted_both, none_above}
-use Rattle.source.specs.Source.{Listed, Register, Source}
+use Rattle.source.specs.Source.{Listed, Source}
 use Rattle.source.specs.Meaning.{listed, value, test}
 use Rattle.source.specs.InRange.{Word, Own, Is, Local, Val, Assigns, Returns, Proper, Numbers}
 use Rattle.source_agrees.specs.SourceOf.{listed_of, assigned, second_of, typed, typed_of}

@@ -14,7 +14,7 @@ use Rattle.logic.specs.Claims.{Claim, NeverBoth}
 use Rattle.limits.specs.Numbers.{nth}
 use Rattle.limits.proofs.PassedTests.{every_at}
 use Rattle.image_frames.specs.Records.{bodies}
-use Rattle.image_header.specs.Header.{start_values, owners, marks, cleared, header_size, header}
+use Rattle.image_header.specs.Header.{owners, marks, cleared, header_size, header}
 use Rattle.image_header.specs.Instruction.{ranged}
 use Rattle.image_header.specs.declared.sizes.Sizes.{Sizes}
 use Rattle.image_header.specs.declared.instruction.Instruction.{Instruction as Coded}

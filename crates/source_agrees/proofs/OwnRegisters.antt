@@ -1,6 +1,6 @@
 -- Registers of a thread: one that the header gives it, and a formula over such registers alone.
 use mathlib.Core.Path.{◌≡◌, refl, ap, sym, ◌∙◌, subst}
-use mathlib.Core.Bool.{Bool, true, false, not, ◌&&◌}
+use mathlib.Core.Bool.{Bool, true, false, ◌&&◌}
 use mathlib.Core.List.{List, [], ◌∷◌, map}
 use mathlib.Core.Logic.{inl, inr}
 use Prim.Native.Nat.{ℕ, zero, suc, ◌-◌, ◌≤◌, ◌<◌}
@@ -17,7 +17,7 @@ use Rattle.formula.specs.Codes.{member}
 use Rattle.formula_compare.specs.Occurs.{owner_of, is_queried, occurs, foreign}
 use Rattle.formula_trees.specs.ToTree.{to_tree}
 use Rattle.formula_trees.proofs.OccursAgree.{Is, absent}
-use Rattle.source.specs.Source.{Register, Source}
+use Rattle.source.specs.Source.{Source}
 use Rattle.source.specs.InRange.{Own, Local, Numbers}
 use Rattle.source_agrees.proofs.FormulaNumbers.{only_both, value_numbers, test_numbers}
 use Rattle.source_agrees.proofs.HeaderWritten.{owner}

@@ -3,20 +3,18 @@ use mathlib.Core.Path.{◌≡◌, refl, ap, sym, ◌∙◌, subst}
 use mathlib.Core.Bool.{Bool, true, ◌&&◌}
 use mathlib.Core.List.{List, [], ◌∷◌, map}
 use mathlib.Core.Logic.{◌≢◌}
-use Prim.Native.Nat.{ℕ, zero, suc, ◌+◌, ◌-◌, ◌≤◌, ◌<◌}
+use Prim.Native.Nat.{ℕ, suc, ◌+◌, ◌-◌, ◌≤◌, ◌<◌}
 use native.Mathlib.Omega.{arith}
 use lib.Dec.{eqb}
 use lib.ListN.{length, get_or, drop, length-map, length-take, length-drop, length-append}
-use borrow.Author.Tests.{eqb-true, eqb-false, not-true}
+use borrow.Author.Tests.{eqb-false, not-true}
 use Rattle.semantics.specs.Base.{All, Within}
-use Rattle.semantics.specs.Formula.{Sort, Assertion}
+use Rattle.semantics.specs.Formula.{Sort}
 use Rattle.logic.specs.Claims.{Claim}
-use Rattle.limits.specs.Limits as Limits
 use Rattle.limits.specs.Numbers.{within, every, le16}
 use Rattle.limits.proofs.PassedTests.{and_true, within_true, every_at}
 use Rattle.formula.specs.Codes as Codes
 use Rattle.formula.specs.Reader.{sort_of}
-use Rattle.image_frames.specs.Records.{bodies}
 use Rattle.image_header.specs.Header.{thread_count, value_range, start_values, owners, marks, headed, header}
 use Rattle.image_header.specs.Header as Header
 use Rattle.image_header.specs.Instruction.{ranged}
@@ -50,9 +48,9 @@ use Rattle.source_agrees.specs.SourceOf.{listed_of, registers_of, typed_of, sour
 use Rattle.source_agrees.proofs.FormulaNumbers.{Constant, bounded_numbers, outlined}
 use Rattle.source_agrees.proofs.FormulasMean.{assertion_same}
 use Rattle.source_agrees.proofs.HeaderWritten.{owner, owners_same}
-use Rattle.source_agrees.proofs.SourceLookUps.{before, thread_from, point_found, points_count}
+use Rattle.source_agrees.proofs.SourceLookUps.{before, thread_from, point_found}
 use Rattle.source_agrees.proofs.ImageWritten.{many, doc}
-use Rattle.source_agrees.proofs.MeaningAgrees.{l, D, t, k, counted, threads_are, words_are, thread_is, thread_found_is, points_are, listed_is, number_is, sorted_at, by_number, get_d_map}
+use Rattle.source_agrees.proofs.MeaningAgrees.{l, D, t, k, threads_are, words_are, thread_is, thread_found_is, points_are, listed_is, number_is, sorted_at, by_number}
 use Rattle.source_agrees.proofs.InstructionInRange.{Passes, is_sorted, proper_in}
 use Rattle.source_agrees.proofs.PromiseOfSource.{all_of}
 

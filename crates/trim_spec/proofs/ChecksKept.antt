@@ -7,7 +7,6 @@ use native.Mathlib.Omega.{arith}
 use lib.ListN.{length, get_or}
 use Rattle.image_frames.specs.declared.fault.Checked.TheVariants.{Passed}
 use Rattle.image_frames.proofs.KindCounts.{Counts}
-use Rattle.image_header.specs.Header as Header
 use Rattle.image_header.specs.Header.{thread_count, header}
 use Rattle.image_bodies.specs.FormulaBody.{counts_of, formula}
 use Rattle.image.specs.Decode.{sizes_of, record_count, first_fault}

@@ -9,11 +9,10 @@ use Rattle.limits.specs.Limits as Limits
 use Rattle.image_frames.specs.Frames.{whole_image}
 use Rattle.image_frames.specs.Records.{bodies}
 use Rattle.image_frames.specs.declared.walk.Framing.{Framing}
-use Rattle.image_frames.specs.declared.walk.Framing.TheVariants as Framing
 use Rattle.image_header.specs.Header.{thread_count, headed, header}
 use Rattle.image_header.specs.declared.sizes.Sizes.{Sizes}
 use Rattle.image.specs.Decode.{record_count, sizes_of, first_fault, behind_frames, decoded}
-use Rattle.image.specs.declared.decode.Decoded.TheVariants.{Refused, Sound}
+use Rattle.image.specs.declared.decode.Decoded.TheVariants.{Sound}
 use Rattle.image.specs.Body.{place_of, check}
 use Rattle.image_frames.specs.declared.fault.Checked.TheVariants.{Passed}
 use Rattle.limits.specs.Numbers.{within}

@@ -61,6 +61,9 @@ claims_end (suc m) i a b n h =
 pub kinds_sound : (a b n m : ℕ) → 1 ≤ a → a ≤ Limits.formulas → 1 ≤ b → b ≤ Limits.threads → 1 ≤ n → n ≤ Limits.lines → m ≤ Limits.claims
     → walk_kinds 1 none (kinds_of a b n m) ≡ Sound a b n m
 unfolding kinds_of most order
+kinds_sound zero b n m la ha lb hb ln hn hm = elim la [ ]
+kinds_sound (suc a) zero n m la ha lb hb ln hn hm = elim lb [ ]
+kinds_sound (suc a) (suc b) zero m la ha lb hb ln hn hm = elim ln [ ]
 kinds_sound (suc a) (suc b) (suc n) m la ha lb hb ln hn hm =
     run Kinds.header 1 refl (omega arith) 0 1 none _ (omega arith) (omega arith) (omega arith) (omega arith)
     ∙ run Kinds.formula 2 refl (omega arith) a _ _ _ (omega arith) (omega arith) (omega arith) (omega arith)

@@ -12,10 +12,10 @@ use Rattle.limits.proofs.PassedTests.{and_true, within_true}
 use Rattle.image_frames.specs.declared.fault.Checked.TheVariants.{Passed}
 use Rattle.image_bodies.specs.declared.line.Form.{Form}
 use Rattle.image_bodies.specs.declared.line.Form.TheVariants.{Triple, Implication, Inclusion, Pair, Unlisted}
-use Rattle.image_bodies.specs.Line.{form_of, premises, triple_at, nowhere, placed, numbered, line_numbers}
+use Rattle.image_bodies.specs.Line.{form_of, triple_at, nowhere, placed, numbered, line_numbers}
 use Rattle.image.specs.Decode.{sizes_of}
 use Rattle.image_bodies.specs.LineBody.{line_sorted, line}
-use Rattle.image_meaning.specs.Certificate.{left, right, line_body}
+use Rattle.image_meaning.specs.Certificate.{line_body}
 use Rattle.image_meaning.proofs.PassedChecks.{unless_passed, also_passed}
 use Rattle.image_meaning.proofs.RecordsChecked.{line_passed}
 use Rattle.trim_spec.specs.Document.{Document, LineRecord}

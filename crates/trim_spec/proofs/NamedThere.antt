@@ -2,12 +2,11 @@
 use mathlib.Core.Path.{◌≡◌, refl, subst}
 use mathlib.Core.Bool.{Bool, true, false, cond}
 use mathlib.Core.List.{List, []}
-use Prim.Native.Nat.{ℕ, suc, ◌-◌, ◌≤◌, ◌<◌}
+use Prim.Native.Nat.{ℕ, suc, ◌≤◌, ◌<◌}
 use native.Mathlib.Omega.{arith}
 use lib.Dec.{eqb, leb}
 use lib.ListN.{length, get_or}
 use Rattle.logic.specs.Opcode as Opcode
-use Rattle.limits.specs.Limits as Limits
 use Rattle.limits.specs.Numbers.{nth, within, every}
 use Rattle.limits.proofs.PassedTests.{within_true, every_at}
 use Rattle.image_header.specs.Header.{thread_count}
