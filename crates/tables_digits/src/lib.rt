@@ -1,4 +1,6 @@
 // Rows that advance like digits: the column of one digit, and the values of a formula at all rows, from the row of zeros on.
+#![tactic(auto)]
+
 pub mod run;
 pub mod slot_column;
 

@@ -18,21 +18,21 @@ use tables_columns::combine::combine_parts;
 use tables_columns::slot::{Slots, plain_slot, slot_of};
 
 // The codes that count as leaves, and the number of values.
-#[derive(Drop)]
+#[derive(Clone, Copy)]
 pub struct Reading {
     pub leaves: u32,
     pub range: u8,
 }
 
 // Whether there is nothing to combine at a position, and the level of the column there if so.
-#[derive(Drop)]
+#[derive(Clone, Copy)]
 pub struct Met {
     pub leaf: bool,
     pub level: usize,
 }
 
 // The position past a formula, and the level of its column.
-#[derive(Drop)]
+#[derive(Clone, Copy)]
 pub struct Reached {
     pub end: usize,
     pub level: usize,

@@ -7,10 +7,10 @@ use Rattle.limits.proofs.BranchTests.{tests}
 use Rattle.tables_digits.proofs.run.repeat_front.Statement.{statement}
 use Rattle.tables_digits.proofs.run.repeat_front.Tie as tie
 
-abbrev invariant-loop : tie.invariant-loop
+abbrev invariant-loop : tie.invariant-loop-i
 invariant-loop from count out₀ i₀ out i = (i ≤ count) × ((take (from + i) out ≡ take from out₀ ++ take i out₀) × (length out ≡ length out₀))
 
-abbrev decreases-loop : tie.decreases-loop
+abbrev decreases-loop : tie.decreases-loop-i
 decreases-loop from count out₀ i₀ out i = count - i
 
 pub repeat_front_spec : {M : Type 1} → statement M

@@ -8,11 +8,11 @@ use Rattle.limits.proofs.BranchTests.{tests}
 use Rattle.tables_digits.proofs.run.set_run.Statement.{statement}
 use Rattle.tables_digits.proofs.run.set_run.Tie as tie
 
-abbrev invariant-loop : tie.invariant-loop
+abbrev invariant-loop : tie.invariant-loop-i
 invariant-loop value from count out₀ i₀ out i = (i ≤ count)
     × ((take (from + i) out ≡ take from out₀ ++ constant value i) × (length out ≡ length out₀))
 
-abbrev decreases-loop : tie.decreases-loop
+abbrev decreases-loop : tie.decreases-loop-i
 decreases-loop value from count out₀ i₀ out i = count - i
 
 pub set_run_spec : {M : Type 1} → statement M

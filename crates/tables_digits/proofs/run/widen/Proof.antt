@@ -7,10 +7,10 @@ use Rattle.limits.proofs.BranchTests.{tests}
 use Rattle.tables_digits.proofs.run.widen.Statement.{statement}
 use Rattle.tables_digits.proofs.run.widen.Tie as tie
 
-abbrev invariant-loop : tie.invariant-loop
+abbrev invariant-loop : tie.invariant-loop-to
 invariant-loop from n out₀ to₀ out to = (from ≤ to) × ((to ≤ n) × (Widened from n out₀ to out × (length out ≡ length out₀)))
 
-abbrev decreases-loop : tie.decreases-loop
+abbrev decreases-loop : tie.decreases-loop-to
 decreases-loop from n out₀ to₀ out to = n - to
 
 pub widen_spec : {M : Type 1} → statement M

@@ -6,10 +6,10 @@ use Rattle.limits.proofs.BranchTests.{tests}
 use Rattle.tables_digits.proofs.slot_column.run_of.Statement.{statement}
 use Rattle.tables_digits.proofs.slot_column.run_of.Tie as tie
 
-abbrev invariant-loop : tie.invariant-loop
+abbrev invariant-loop : tie.invariant-loop-i
 invariant-loop lasts j n run₀ i₀ run i = (i ≤ j) × (run ≡ run_of n lasts i)
 
-abbrev decreases-loop : tie.decreases-loop
+abbrev decreases-loop : tie.decreases-loop-i
 decreases-loop lasts j n run₀ i₀ run i = j - i
 
 pub run_of_spec : {M : Type 1} → statement M

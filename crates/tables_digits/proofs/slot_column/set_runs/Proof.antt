@@ -7,12 +7,12 @@ use Rattle.limits.proofs.BranchTests.{tests}
 use Rattle.tables_digits.proofs.slot_column.set_runs.Statement.{statement}
 use Rattle.tables_digits.proofs.slot_column.set_runs.Tie as tie
 
-abbrev invariant-loop : tie.invariant-loop
+abbrev invariant-loop : tie.invariant-loop-value
 invariant-loop lasts j run n out₀ last to₀ value₀ out to value =
     (value ≤ last + 1) × ((to ≡ min (run * value) n)
     × ((take to out ≡ slot_column lasts j to) × ((length out ≡ length out₀) × ((last ≡ get_or lasts j 0) × (last < 256)))))
 
-abbrev decreases-loop : tie.decreases-loop
+abbrev decreases-loop : tie.decreases-loop-value
 decreases-loop lasts j run n out₀ last to₀ value₀ out to value = last + 1 - value
 
 pub set_runs_spec : {M : Type 1} → statement M

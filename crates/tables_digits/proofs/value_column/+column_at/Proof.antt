@@ -42,109 +42,92 @@ column-at-calls t = (
   join-columns-reads.Learnt,
 )
 
--- src/value.rt:185:9
-column-at-leaf-column-requires : (t : ℕ) → column-at-lts.Need-leaf-column-requires (column-at-calls t) (column-at-at t) column_at.Post
+column-at-leaf-column-requires : (t : ℕ) → column-at-lts.Need-leaf_column-f-requires (column-at-calls t) (column-at-at t) column_at.Post
 column-at-leaf-column-requires t c κs = search (column_at_values, tests)
 
--- src/value.rt:188:18
-column-at-end-at-requires : (t : ℕ) → column-at-lts.Need-end-at-requires (column-at-calls t) (column-at-at t) column_at.Post
+column-at-end-at-requires : (t : ℕ) → column-at-lts.Need-end_at-requires (column-at-calls t) (column-at-at t) column_at.Post
 column-at-end-at-requires t c κs = search (column_at_values, tests)
 
--- src/value.rt:187:9
-column-at-same-length : (t : ℕ) → column-at-lts.Need-same-length (column-at-calls t) (column-at-at t) column_at.Post
+column-at-same-length : (t : ℕ) → column-at-lts.Need-shape_of-out-then-f (column-at-calls t) (column-at-at t) column_at.Post
 column-at-same-length t c = search (column_at_values, tests)
 
--- src/value.rt:187:9
-column-at-returns : (t : ℕ) → column-at-lts.Need-returns (column-at-calls t) (column-at-at t) column_at.Post
+column-at-returns : (t : ℕ) → column-at-lts.Need-returns-then-f (column-at-calls t) (column-at-at t) column_at.Post
 column-at-returns t c = (search (column_at_reaches, tests), search (column_at_values, tests))
 
--- src/value.rt:192:9
-column-at-node-at-requires : (t : ℕ) → column-at-lts.Need-node-at-requires (column-at-calls t) (column-at-at t) column_at.Post
+column-at-node-at-requires : (t : ℕ) → column-at-lts.Need-node_at-node-requires (column-at-calls t) (column-at-at t) column_at.Post
 column-at-node-at-requires t c κs = search (column_at_values, tests)
 
--- src/value.rt:193:34
-column-at-sub-column-at : (t : ℕ) → column-at-lts.Need-overflow-sub-column-at (column-at-calls t) (column-at-at t) column_at.Post
+column-at-sub-column-at : (t : ℕ) → column-at-lts.Need-overflow_sub-left (column-at-calls t) (column-at-at t) column_at.Post
 column-at-sub-column-at t c = search (column_at_values, tests)
 
--- src/value.rt:193:9
-column-at-column-at-requires : (t : ℕ) → column-at-lts.Need-column-at-requires (column-at-calls t) (column-at-at t) column_at.Post
+column-at-column-at-requires : (t : ℕ) → column-at-lts.Need-column_at-p-requires (column-at-calls t) (column-at-at t) column_at.Post
 column-at-column-at-requires t c κs = (search (column_at_values, tests), (search tests, search tests))
 
--- src/value.rt:194:9
-column-at-second-left-requires : (t : ℕ) → column-at-lts.Need-second-left-requires (column-at-calls t) (column-at-at t) column_at.Post
+column-at-second-left-requires : (t : ℕ) → column-at-lts.Need-second_left-rest-requires (column-at-calls t) (column-at-at t) column_at.Post
 column-at-second-left-requires t c κs = search (column_at_values, tests)
 
--- src/value.rt:197:63
-column-at-slice-aggregate-column-at : (t : ℕ) → column-at-lts.Need-slice-aggregate-column-at (column-at-calls t) (column-at-at t)
+column-at-slice-aggregate-column-at : (t : ℕ) → column-at-lts.Need-slice_bounds-column_at-end (column-at-calls t) (column-at-at t)
     column_at.Post
 column-at-slice-aggregate-column-at t c = search (column_at_values, tests)
 
--- src/value.rt:197:13
-column-at-column-at-requires-2 : (t : ℕ) → column-at-lts.Need-column-at-requires-2 (column-at-calls t) (column-at-at t) column_at.Post
+column-at-column-at-requires-2 : (t : ℕ) → column-at-lts.Need-column_at-e-requires (column-at-calls t) (column-at-at t) column_at.Post
 column-at-column-at-requires-2 t c κs = search (column_at_values, tests)
 
--- src/value.rt:198:73
-column-at-slice-aggregate-join-columns : (t : ℕ) → column-at-lts.Need-slice-aggregate-join-columns (column-at-calls t) (column-at-at t)
+column-at-slice-aggregate-join-columns : (t : ℕ) → column-at-lts.Need-slice_bounds-join_columns-end (column-at-calls t) (column-at-at t)
     column_at.Post
 column-at-slice-aggregate-join-columns t c = search (column_at_values, tests)
 
--- src/value.rt:198:13
-column-at-join-columns-requires : (t : ℕ) → column-at-lts.Need-join-columns-requires (column-at-calls t) (column-at-at t) column_at.Post
+column-at-join-columns-requires : (t : ℕ) → column-at-lts.Need-join_columns-level-requires (column-at-calls t) (column-at-at t) column_at.Post
 column-at-join-columns-requires t c κs = (
   (
-    level_within _ _ _ _ _ _ c.before.before.before.before.before.before.before.before.before.column_at.ensures.0,
+    level_within _ _ _ _ _ _ c.column_at-p.ensures.0,
     (
-      level_within _ _ _ _ _ _ c.before.before.before.column-at2.ensures.0,
-      c.before.before.before.before.before.before.before.before.before.before.before.before.before.before.before.before.before.before.before.requires.1.0,
+      level_within _ _ _ _ _ _ c.column_at-e.ensures.0,
+      c.requires.1.0,
     ),
   ),
   (
     omega (
       arith,
-      c.before.before.before.before.before.before.before.before.before.before.before.before.before.before.before.before.before.before.before.requires.1,
-      c.before.before.before.before.before.before.before.before.before.before.before.before.before.before.out.given,
-      c.before.before.before.before.before.before.before.before.out2.given,
+      c.requires.1,
+      c.out-1.given,
+      c.out-2-1.given,
     ),
     omega (
       arith,
-      c.before.before.before.before.before.before.before.before.before.before.before.before.before.before.before.before.before.before.before.requires.1,
-      c.before.before.b2.given,
+      c.requires.1,
+      c.b-then-n-le-FEW-1.given,
     ),
   ),
 )
 
--- src/value.rt:199:9
-column-at-same-length-2 : (t : ℕ) → column-at-lts.Need-same-length-2 (column-at-calls t) (column-at-at t) column_at.Post
+column-at-same-length-2 : (t : ℕ) → column-at-lts.Need-shape_of-out-then-n-le-FEW (column-at-calls t) (column-at-at t) column_at.Post
 column-at-same-length-2 t c = search (column_at_values, tests)
 
--- src/value.rt:199:9
-column-at-returns-2 : (t : ℕ) → column-at-lts.Need-returns-2 (column-at-calls t) (column-at-at t) column_at.Post
+column-at-returns-2 : (t : ℕ) → column-at-lts.Need-returns-then-n-le-FEW (column-at-calls t) (column-at-at t) column_at.Post
 column-at-returns-2 t c = (
   reached_two _ _ _ [] 0 _ _ _
-      c.before.before.before.before.before.before.before.before.before.before.before.before.before.before.before.before.before.before.before.leaf-column.ensures.0
-      c.before.before.before.before.before.before.before.before.before.before.before.before.before.before.before.before.if1.false _ _ _ _ c.before.before.before.before.before.before.before.before.before.before.before.before.before.before.before.Node-at.ensures c.before.before.before.before.before.before.before.before.before.before.before.before.before.column_at.ensures.0 c.before.before.before.before.before.before.before.before.before.before.second-left.ensures
-      c.before.before.before.before.before.before.before.column-at2.ensures.0 _
-      c.before.before.before.join_columns.ensures.0,
-  value_two _ _ _ _ _ _ _ _ c.before.before.before.before.before.before.before.before.before.before.before.before.before.before.before.before.before.before.before.leaf-column.ensures.0
-      c.before.before.before.before.before.before.before.before.before.before.before.before.before.before.before.before.if1.false _ _ _ _ c.before.before.before.before.before.before.before.before.before.before.before.before.before.before.before.Node-at.ensures c.before.before.before.before.before.before.before.before.before.before.before.before.before.column_at.ensures.0 c.before.before.before.before.before.before.before.before.before.before.second-left.ensures
-      c.before.before.before.before.before.before.before.column-at2.ensures.0 _ _ _
-      c.before.before.before.before.before.before.before.before.before.before.before.before.before.column_at.ensures.1
-      c.before.before.before.before.before.before.before.column-at2.ensures.1
-      c.before.before.before.join_columns.ensures.1,
+      c.leaf_column-f.ensures.0
+      c.if-f.false _ _ _ _ c.node_at-node.ensures c.column_at-p.ensures.0 c.second_left-rest.ensures
+      c.column_at-e.ensures.0 _
+      c.join_columns-level.ensures.0,
+  value_two _ _ _ _ _ _ _ _ c.leaf_column-f.ensures.0
+      c.if-f.false _ _ _ _ c.node_at-node.ensures c.column_at-p.ensures.0 c.second_left-rest.ensures
+      c.column_at-e.ensures.0 _ _ _
+      c.column_at-p.ensures.1
+      c.column_at-e.ensures.1
+      c.join_columns-level.ensures.1,
 )
 
--- src/value.rt:202:59
-column-at-slice-aggregate-column-at-2 : (t : ℕ) → column-at-lts.Need-slice-aggregate-column-at-2 (column-at-calls t) (column-at-at t)
+column-at-slice-aggregate-column-at-2 : (t : ℕ) → column-at-lts.Need-slice_bounds-column_at-end-2 (column-at-calls t) (column-at-at t)
     column_at.Post
 column-at-slice-aggregate-column-at-2 t c = search (column_at_values, tests)
 
--- src/value.rt:202:9
-column-at-column-at-requires-3 : (t : ℕ) → column-at-lts.Need-column-at-requires-3 (column-at-calls t) (column-at-at t) column_at.Post
+column-at-column-at-requires-3 : (t : ℕ) → column-at-lts.Need-column_at-e-requires-2 (column-at-calls t) (column-at-at t) column_at.Post
 column-at-column-at-requires-3 t c κs = search (column_at_values, tests)
 
--- src/value.rt:203:69
 column-at-slice-aggregate-join-columns-2 :
-    (t : ℕ) → column-at-lts.Need-slice-aggregate-join-columns-2 (
+    (t : ℕ) → column-at-lts.Need-slice_bounds-join_columns-end-2 (
       leaf-column-reads.Asked,
       leaf-column-reads.Learnt,
       end-at-reads.Asked,
@@ -160,49 +143,46 @@ column-at-slice-aggregate-join-columns-2 :
     ) (column-at-at t) column_at.Post
 column-at-slice-aggregate-join-columns-2 t c = search (column_at_values, tests)
 
--- src/value.rt:203:9
-column-at-join-columns-requires-2 : (t : ℕ) → column-at-lts.Need-join-columns-requires-2 (column-at-calls t) (column-at-at t) column_at.Post
+column-at-join-columns-requires-2 : (t : ℕ) → column-at-lts.Need-join_columns-level-requires-2 (column-at-calls t) (column-at-at t) column_at.Post
 column-at-join-columns-requires-2 t c κs = (
   (
-    level_within _ _ _ _ _ _ c.before.before.before.before.before.before.before.before.before.column_at.ensures.0,
+    level_within _ _ _ _ _ _ c.column_at-p.ensures.0,
     (
-      level_within _ _ _ _ _ _ c.before.before.before.column-at3.ensures.0,
-      c.before.before.before.before.before.before.before.before.before.before.before.before.before.before.before.before.before.before.before.requires.1.0,
+      level_within _ _ _ _ _ _ c.column_at-e-2.ensures.0,
+      c.requires.1.0,
     ),
   ),
   (
     omega (
       arith,
-      c.before.before.before.before.before.before.before.before.before.before.before.before.before.before.before.before.before.before.before.requires.1,
-      c.before.before.before.before.before.before.before.before.before.before.before.before.before.before.out.given,
-      c.before.before.before.before.before.before.before.before.out2.given,
+      c.requires.1,
+      c.out-1.given,
+      c.out-2-1.given,
     ),
     omega (
       arith,
-      c.before.before.before.before.before.before.before.before.before.before.before.before.before.before.before.before.before.before.before.requires.1,
-      c.before.before.b6.given,
+      c.requires.1,
+      c.b-3-1.given,
     ),
   ),
 )
 
--- src/value.rt:171:1
-column-at-same-length-3 : (t : ℕ) → column-at-lts.Need-same-length-3 (column-at-calls t) (column-at-at t) column_at.Post
+column-at-same-length-3 : (t : ℕ) → column-at-lts.Need-shape_of-out (column-at-calls t) (column-at-at t) column_at.Post
 column-at-same-length-3 t c = search (column_at_values, tests)
 
--- src/value.rt:171:1
-column-at-returns-3 : (t : ℕ) → column-at-lts.Need-returns-3 (column-at-calls t) (column-at-at t) column_at.Post
+column-at-returns-3 : (t : ℕ) → column-at-lts.Need-returns (column-at-calls t) (column-at-at t) column_at.Post
 column-at-returns-3 t c = (
   reached_two _ _ _ [] 0 _ _ _
-      c.before.before.before.before.before.before.before.before.before.before.before.before.before.before.before.before.before.before.before.leaf-column.ensures.0
-      c.before.before.before.before.before.before.before.before.before.before.before.before.before.before.before.before.if1.false _ _ _ _ c.before.before.before.before.before.before.before.before.before.before.before.before.before.before.before.Node-at.ensures c.before.before.before.before.before.before.before.before.before.before.before.before.before.column_at.ensures.0 c.before.before.before.before.before.before.before.before.before.before.second-left.ensures
-      c.before.before.before.before.before.before.before.column-at3.ensures.0 _
-      c.before.before.before.join-columns2.ensures.0,
-  value_two _ _ _ _ _ _ _ _ c.before.before.before.before.before.before.before.before.before.before.before.before.before.before.before.before.before.before.before.leaf-column.ensures.0
-      c.before.before.before.before.before.before.before.before.before.before.before.before.before.before.before.before.if1.false _ _ _ _ c.before.before.before.before.before.before.before.before.before.before.before.before.before.before.before.Node-at.ensures c.before.before.before.before.before.before.before.before.before.before.before.before.before.column_at.ensures.0 c.before.before.before.before.before.before.before.before.before.before.second-left.ensures
-      c.before.before.before.before.before.before.before.column-at3.ensures.0 _ _ _
-      c.before.before.before.before.before.before.before.before.before.before.before.before.before.column_at.ensures.1
-      c.before.before.before.before.before.before.before.column-at3.ensures.1
-      c.before.before.before.join-columns2.ensures.1,
+      c.leaf_column-f.ensures.0
+      c.if-f.false _ _ _ _ c.node_at-node.ensures c.column_at-p.ensures.0 c.second_left-rest.ensures
+      c.column_at-e-2.ensures.0 _
+      c.join_columns-level-2.ensures.0,
+  value_two _ _ _ _ _ _ _ _ c.leaf_column-f.ensures.0
+      c.if-f.false _ _ _ _ c.node_at-node.ensures c.column_at-p.ensures.0 c.second_left-rest.ensures
+      c.column_at-e-2.ensures.0 _ _ _
+      c.column_at-p.ensures.1
+      c.column_at-e-2.ensures.1
+      c.join_columns-level-2.ensures.1,
 )
 
 pub +column_at_spec : {M : Type 1} → statement M

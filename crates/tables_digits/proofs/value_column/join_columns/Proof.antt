@@ -16,13 +16,13 @@ join_columns_spec =
     (λ c κs. (
       omega (
         arith,
-        span_low _ _ _ _ c.before.before.Span-of.ensures,
-        c.before.before.before.before.before.before.before.before.before.widen-level.auto.1.1.1.1.0,
+        span_low _ _ _ _ c.span_of.ensures,
+        c.widen_level.auto.out,
       ),
       omega (
         arith,
-        span_low _ _ _ _ c.before.before.Span-of.ensures,
-        c.before.before.before.before.before.widen-level2.auto.1.1.1.1.0,
+        span_low _ _ _ _ c.span_of.ensures,
+        c.widen_level-2.auto.out,
       ),
     ))
     (λ c. search rules)

@@ -10,17 +10,17 @@ whole_column_spec =
     tie.close
     (tie.spec (λ c κs. search rules)
     (λ c κs. (
-      level_within _ _ _ _ _ _ c.before.before.column_at.ensures.0,
-      c.before.before.before.before.before.before.requires.0,
+      level_within _ _ _ _ _ _ c.column_at-p.ensures.0,
+      c.requires.0,
     ))
     (λ c κs. (
-      (whole_asks _ _ _ _ c.before.Span-of.ensures).0,
+      (whole_asks _ _ _ _ c.span_of.ensures).0,
       (
-        (whole_asks _ _ _ _ c.before.Span-of.ensures).1,
+        (whole_asks _ _ _ _ c.span_of.ensures).1,
         omega (
           arith,
-          c.before.before.before.before.before.before.before.before.requires.1,
-          c.before.before.before.before.column_at.auto.1.1.1.1.1.1.1.0,
+          c.requires.1,
+          c.column_at-p.auto.out,
         ),
       ),
     )) (λ c. search rules)
