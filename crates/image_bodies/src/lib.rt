@@ -1,4 +1,6 @@
 // The bodies of all records but the header: codes 5 to 9 and 23, and total look-ups in them.
+#![tactic(auto)]
+
 pub mod claim;
 pub mod instruction_at;
 pub mod line;

@@ -15,7 +15,7 @@ use limits::read::{byte_at, number_at, rest};
 
 // What a line says: a triple, an implication, an inclusion of intervals, or a triple for a whole pair; Unlisted if no rule has its
 // number.
-#[derive(Drop)]
+#[derive(Clone, Copy)]
 pub enum Form {
     Triple,
     Implication,

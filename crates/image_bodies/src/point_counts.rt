@@ -12,7 +12,7 @@ use image_index::look_up::body_of;
 
 // Sums over threads: points, obligations by own steps (classes 2 and 3), actions (instructions that are no branch), and points times own
 // actions.
-#[derive(Drop)]
+#[derive(Clone, Copy)]
 pub struct PointCounts {
     pub points: usize,
     pub steps: usize,

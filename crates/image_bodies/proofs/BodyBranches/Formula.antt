@@ -6,7 +6,6 @@ use Rattle.image_frames.specs.declared.fault.Fault.{Fault}
 use Rattle.image_frames.specs.declared.fault.Checked.TheVariants.{Passed, Faulty}
 use Rattle.formula.specs.declared.reader.Counts.{Counts}
 use Rattle.formula.specs.declared.reader.Reading.{Reading}
-use Rattle.formula.specs.declared.reader.Reading.TheVariants as Reading
 use Rattle.formula.specs.Reader.{reading_of}
 use Rattle.image_header.specs.declared.sizes.Sizes.{Sizes}
 use Rattle.image_bodies.specs.FormulaBody.{counts_of, fault_of, read}

@@ -9,10 +9,10 @@ use Rattle.limits.proofs.BranchTests.{tests}
 use Rattle.image_bodies.proofs.list_body.all_outlined.Statement.{statement}
 use Rattle.image_bodies.proofs.list_body.all_outlined.Tie as tie
 
-abbrev invariant-loop : tie.invariant-loop
+abbrev invariant-loop : tie.invariant-loop-i
 invariant-loop s ix on z b n i₀ i = (i ≤ n) × (every (outlined_at (bodies s)) (numbers n b) ≡ every (outlined_at (bodies s)) (drop i (numbers n b)))
 
-abbrev decreases-loop : tie.decreases-loop
+abbrev decreases-loop : tie.decreases-loop-i
 decreases-loop s ix on z b n i₀ i = n - i
 
 pub all_outlined_spec : {M : Type 1} → statement M

@@ -9,11 +9,11 @@ use Rattle.image_bodies.specs.OutlineFormulas.{outlined_to}
 use Rattle.image_bodies.proofs.outline_formulas.outlined_of.Statement.{statement}
 use Rattle.image_bodies.proofs.outline_formulas.outlined_of.Tie as tie
 
-abbrev invariant-loop : tie.invariant-loop
+abbrev invariant-loop : tie.invariant-loop-k
 invariant-loop s ix n o₀ k₀ o k = (n ≤ Limits.formulas + 1)
     × ((k ≤ n) × ((o.on ≡ outlined_to (bodies s) k) × (length o.on ≡ Limits.formulas + 1)))
 
-abbrev decreases-loop : tie.decreases-loop
+abbrev decreases-loop : tie.decreases-loop-k
 decreases-loop s ix n o₀ k₀ o k = n - k
 
 pub outlined_of_spec : {M : Type 1} → statement M

@@ -9,14 +9,14 @@ use Rattle.limits.proofs.BranchTests.{tests}
 use Rattle.image_bodies.proofs.point_counts.branches_of.Statement.{statement}
 use Rattle.image_bodies.proofs.point_counts.branches_of.Tie as tie
 
-abbrev invariant-loop : tie.invariant-loop
+abbrev invariant-loop : tie.invariant-loop-p
 invariant-loop b last n₀ at₀ p₀ n at p =
     (last ≡ last_point b)
     ×
     ((last < 256)
     × ((p ≤ last) × ((at ≡ begins (drop 1 b) p) × ((n ≤ p) × (n + branches (drop p (instructions b)) ≡ branches (instructions b))))))
 
-abbrev decreases-loop : tie.decreases-loop
+abbrev decreases-loop : tie.decreases-loop-p
 decreases-loop b last n₀ at₀ p₀ n at p = last - p
 
 pub branches_of_spec : {M : Type 1} → statement M

@@ -7,11 +7,11 @@ use Rattle.limits.proofs.BranchTests.{tests}
 use Rattle.image_bodies.proofs.point_counts.point_counts_of.Statement.{statement}
 use Rattle.image_bodies.proofs.point_counts.point_counts_of.Tie as tie
 
-abbrev invariant-loop : tie.invariant-loop
+abbrev invariant-loop : tie.invariant-loop-t
 invariant-loop s ix z c₀ threads t₀ c t = (threads ≡ z.threads)
     × ((threads < 256) × ((t ≤ threads) × ((c ≡ point_counts_to z (bodies s) t) × Small t c)))
 
-abbrev decreases-loop : tie.decreases-loop
+abbrev decreases-loop : tie.decreases-loop-t
 decreases-loop s ix z c₀ threads t₀ c t = threads - t
 
 pub point_counts_of_spec : {M : Type 1} → statement M

@@ -11,7 +11,7 @@ use Rattle.limits.proofs.BranchTests.{tests}
 use Rattle.image_bodies.proofs.thread_body.instructions_sorted.Statement.{statement}
 use Rattle.image_bodies.proofs.thread_body.instructions_sorted.Tie as tie
 
-abbrev invariant-loop : tie.invariant-loop
+abbrev invariant-loop : tie.invariant-loop-p
 invariant-loop s ix b last at₀ p₀ at p =
     (last ≡ last_point b)
     ×
@@ -21,7 +21,7 @@ invariant-loop s ix b last at₀ p₀ at p =
     × ((at ≡ begins (drop 1 b) p) × (every (sorted (bodies s)) (instructions b) ≡ every (sorted (bodies s))
     (drop p (instructions b))))))
 
-abbrev decreases-loop : tie.decreases-loop
+abbrev decreases-loop : tie.decreases-loop-p
 decreases-loop s ix b last at₀ p₀ at p = last - p
 
 pub instructions_sorted_spec : {M : Type 1} → statement M
@@ -45,9 +45,9 @@ instructions_sorted_spec =
           search tests,
           (
             search tests,
-            each_more _ c.before.before.before.before.before.loop.p
-                c.before.before.before.before.before.before.last-point.result _ _ nothing
-                c.before.before.before.instruction-from.result c.before.before.instruction-sorted.result (search tests)
+            each_more _ c.before.before.before.before.before.loop-p.p
+                c.before.before.before.before.before.before.last_point-last.result _ _ nothing
+                c.before.before.before.instruction_from-instruction.result c.before.before.instruction_sorted.result (search tests)
                 (search (instructions_count, tests)) (search tests) (search tests) (search tests) (search tests),
           ),
         ),

@@ -11,7 +11,7 @@ use Rattle.limits.proofs.BranchTests.{tests}
 use Rattle.image_bodies.proofs.thread_body.results_absent.Statement.{statement}
 use Rattle.image_bodies.proofs.thread_body.results_absent.Tie as tie
 
-abbrev invariant-loop : tie.invariant-loop
+abbrev invariant-loop : tie.invariant-loop-p
 invariant-loop s ix b last at₀ p₀ at p =
     (last ≡ last_point b)
     ×
@@ -21,7 +21,7 @@ invariant-loop s ix b last at₀ p₀ at p =
     × ((at ≡ begins (drop 1 b) p) × (every (result_absent (bodies s)) (instructions b) ≡ every (result_absent (bodies s))
     (drop p (instructions b))))))
 
-abbrev decreases-loop : tie.decreases-loop
+abbrev decreases-loop : tie.decreases-loop-p
 decreases-loop s ix b last at₀ p₀ at p = last - p
 
 pub results_absent_spec : {M : Type 1} → statement M
@@ -45,9 +45,9 @@ results_absent_spec =
           search tests,
           (
             search tests,
-            each_more _ c.before.before.before.before.before.loop.p
-                c.before.before.before.before.before.before.last-point.result _ _ nothing
-                c.before.before.before.instruction-from.result c.before.before.result-absent.result (search tests)
+            each_more _ c.before.before.before.before.before.loop-p.p
+                c.before.before.before.before.before.before.last_point-last.result _ _ nothing
+                c.before.before.before.instruction_from-instruction.result c.before.before.result_absent.result (search tests)
                 (search (instructions_count, tests)) (search tests) (search tests) (search tests) (search tests),
           ),
         ),
