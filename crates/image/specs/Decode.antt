@@ -5,7 +5,6 @@ use Rattle.image_frames.specs.Records.{bodies}
 use Rattle.image_frames.specs.declared.fault.Checked.{Checked}
 use Rattle.image_frames.specs.declared.fault.Checked.TheVariants.{Passed, Faulty}
 use Rattle.image_frames.specs.declared.walk.Framing.{Framing}
-use Rattle.image_frames.specs.declared.walk.Framing.TheVariants as Framing
 use Rattle.image_header.specs.declared.sizes.Sizes.{Sizes}
 use Rattle.image_header.specs.Header.{thread_count, word_count, register_count, value_range}
 use Rattle.image.specs.Body.{place_of, check}

@@ -15,7 +15,7 @@ use image_header::header::check_header;
 use image_header::sizes::Sizes;
 
 // What a record is: of a thread its number, of a line the number of lines before it.
-#[derive(Drop)]
+#[derive(Clone, Copy)]
 pub enum Place {
     Header,
     Formula,

@@ -15,7 +15,7 @@ use image_index::look_up::body_of;
 use limits::read::byte_at;
 
 // The first fault of an image with its record, or its sizes.
-#[derive(Drop)]
+#[derive(Clone, Copy)]
 pub enum Decoded {
     Refused { fault: Fault, record: usize },
     Sound(Sizes),

@@ -13,7 +13,6 @@ use Rattle.image_frames.specs.declared.fault.Fault.{Fault}
 use Rattle.image_frames.specs.declared.fault.Checked.{Checked}
 use Rattle.image_frames.specs.declared.fault.Checked.TheVariants.{Passed, Faulty}
 use Rattle.image_frames.specs.declared.walk.Framing.{Framing}
-use Rattle.image_frames.specs.declared.walk.Framing.TheVariants as Framing
 use Rattle.image_header.specs.declared.sizes.Sizes.{Sizes}
 use Rattle.image_header.specs.Header.{header}
 use Rattle.image_bodies.specs.FormulaBody as Formulas

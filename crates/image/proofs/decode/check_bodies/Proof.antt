@@ -8,7 +8,7 @@ use Rattle.limits.proofs.BranchTests.{tests}
 use Rattle.image.proofs.decode.check_bodies.Statement.{statement}
 use Rattle.image.proofs.decode.check_bodies.Tie as tie
 
-abbrev invariant-loop : tie.invariant-loop
+abbrev invariant-loop : tie.invariant-loop-i
 invariant-loop s ix on t z n i₀ i = (n ≡ record_count z)
     ×
     ((n < 1000000)
@@ -17,7 +17,7 @@ invariant-loop s ix on t z n i₀ i = (n ≡ record_count z)
     × ((i ≤ n + 1) × (first_fault t z (bodies s) 1 (record_count z) (bodies s) ≡ first_fault t z (bodies s) i (n + 1 - i)
     (drop (i - 1) (bodies s))))))
 
-abbrev decreases-loop : tie.decreases-loop
+abbrev decreases-loop : tie.decreases-loop-i
 decreases-loop s ix on t z n i₀ i = n + 1 - i
 
 pub check_bodies_spec : {M : Type 1} → statement M
