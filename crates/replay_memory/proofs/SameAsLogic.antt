@@ -1,5 +1,5 @@
 -- Views and writes that say the same as the logic's: moved up, joined, set.
-use Prim.Native.Nat.{ℕ, suc, ◌-◌, ◌%◌, ◌<◌, max}
+use Prim.Native.Nat.{ℕ, suc, ◌%◌, ◌<◌, max}
 use mathlib.Core.Path.{◌≡◌, refl, ap₂, ◌∙◌}
 use mathlib.Core.Bool.{Bool, true, false}
 use mathlib.Core.List.{List}

@@ -1,5 +1,7 @@
 // The shared memory of a replay: the writes of each word in modification order, and the views of threads, in fixed tables.
 
+#![tactic(auto)]
+
 // Writes and views: as values, and in a table of bytes.
 pub mod view;
 pub mod write;

@@ -10,7 +10,7 @@ use crate::write_table::{Places, cover_at, read_at};
 use limits::read::{byte_at, u8_at};
 
 // There are 64 places for the writes of a program, and one for each of eight words: a word that is not there has its start write too.
-#[derive(Drop)]
+#[derive(Clone, Copy)]
 pub struct Memory {
     pub sizes: [u8; 8],
     pub writes: [Write; 72],
@@ -18,7 +18,7 @@ pub struct Memory {
 }
 
 // A memory without its writes, which are in a table of bytes, so that a step copies none of them.
-#[derive(Drop)]
+#[derive(Clone, Copy)]
 pub struct MemoryShape {
     pub sizes: [u8; 8],
     pub views: [View; 4],

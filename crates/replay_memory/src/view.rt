@@ -3,7 +3,7 @@ ghost use Rattle.std.specs.Prelude.{◌≡◌, max};
 ghost use Rattle.replay_memory.specs.View.{start_view, next, up, position_in, with_position, up_view, joined};
 
 // The position of the named write, for each word.
-#[derive(Drop)]
+#[derive(Clone, Copy)]
 pub struct View {
     pub at: [u8; 8],
 }

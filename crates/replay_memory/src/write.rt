@@ -5,7 +5,7 @@ ghost use Rattle.replay_memory.specs.Write.{start_write};
 use crate::view::{View, start_view};
 
 // A write: a value, a releasing mark, a covered mark, and the view stored with it.
-#[derive(Drop)]
+#[derive(Clone, Copy)]
 pub struct Write {
     pub value: u8,
     pub releasing: bool,

@@ -7,10 +7,10 @@ use lib.ListN.{take, length}
 use Rattle.replay_memory.proofs.insert.grow.Statement.{statement}
 use Rattle.replay_memory.proofs.insert.grow.Tie as tie
 
-abbrev invariant-loop : tie.invariant-loop
+abbrev invariant-loop : tie.invariant-loop-j
 invariant-loop k p g views₀ j₀ views j = (j ≤ 4) × ((take j views ≡ views_to g.views k p j) × (length views ≡ 4))
 
-abbrev decreases-loop : tie.decreases-loop
+abbrev decreases-loop : tie.decreases-loop-j
 decreases-loop k p g views₀ j₀ views j = 4 - j
 
 pub grow_spec : {M : Type 1} → statement M

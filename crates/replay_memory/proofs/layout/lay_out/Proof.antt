@@ -7,11 +7,11 @@ use lib.ListN.{take, length}
 use Rattle.replay_memory.proofs.layout.lay_out.Statement.{statement}
 use Rattle.replay_memory.proofs.layout.lay_out.Tie as tie
 
-abbrev invariant-loop : tie.invariant-loop
+abbrev invariant-loop : tie.invariant-loop-j
 invariant-loop table₀ m j₀ table j =
     (j ≤ 72) × ((take j (writes_in table) ≡ take j m.writes) × ((length table ≡ 792) × (length m.writes ≡ 72)))
 
-abbrev decreases-loop : tie.decreases-loop
+abbrev decreases-loop : tie.decreases-loop-j
 decreases-loop table₀ m j₀ table j = 72 - j
 
 pub lay_out_spec : {M : Type 1} → statement M

@@ -6,10 +6,10 @@ use lib.ListN.{take, length}
 use Rattle.replay_memory.proofs.layout.memory_of.Statement.{statement}
 use Rattle.replay_memory.proofs.layout.memory_of.Tie as tie
 
-abbrev invariant-loop : tie.invariant-loop
+abbrev invariant-loop : tie.invariant-loop-j
 invariant-loop g table writes₀ j₀ writes j = (j ≤ 72) × ((take j writes ≡ read_to table j) × (length writes ≡ 72))
 
-abbrev decreases-loop : tie.decreases-loop
+abbrev decreases-loop : tie.decreases-loop-j
 decreases-loop g table writes₀ j₀ writes j = 72 - j
 
 pub memory_of_spec : {M : Type 1} → statement M

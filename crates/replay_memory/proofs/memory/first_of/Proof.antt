@@ -6,10 +6,10 @@ use mathlib.Core.Path.{◌≡◌}
 use Rattle.replay_memory.proofs.memory.first_of.Statement.{statement}
 use Rattle.replay_memory.proofs.memory.first_of.Tie as tie
 
-abbrev invariant-loop : tie.invariant-loop
+abbrev invariant-loop : tie.invariant-loop-j
 invariant-loop sizes k sum₀ j₀ sum j = (j ≤ k) × ((sum ≡ first sizes j) × (sum ≤ j * 255))
 
-abbrev decreases-loop : tie.decreases-loop
+abbrev decreases-loop : tie.decreases-loop-j
 decreases-loop sizes k sum₀ j₀ sum j = k - j
 
 pub first_of_spec : {M : Type 1} → statement M

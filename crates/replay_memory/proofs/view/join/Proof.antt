@@ -7,10 +7,10 @@ use Rattle.replay_memory.specs.View.{joined_to}
 use Rattle.replay_memory.proofs.view.join.Statement.{statement}
 use Rattle.replay_memory.proofs.view.join.Tie as tie
 
-abbrev invariant-loop : tie.invariant-loop
+abbrev invariant-loop : tie.invariant-loop-i
 invariant-loop v w u₀ i₀ u i = (i ≤ 8) × ((take i u.at ≡ joined_to v w i) × (length u.at ≡ 8))
 
-abbrev decreases-loop : tie.decreases-loop
+abbrev decreases-loop : tie.decreases-loop-i
 decreases-loop v w u₀ i₀ u i = 8 - i
 
 pub join_spec : {M : Type 1} → statement M
