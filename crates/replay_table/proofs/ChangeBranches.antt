@@ -1,5 +1,5 @@
 -- The functions on values: one law for each.
-use mathlib.Core.Path.{◌≡◌, refl}
+use mathlib.Core.Path.{◌≡◌}
 use Prim.Native.Nat.{ℕ, ◌+◌}
 use mathlib.Core.Bool.{Bool, true, false}
 use Rattle.replay_memory.specs.View.{next, with_position}

@@ -1,5 +1,3 @@
 pub mod Inserted
-pub mod LentSlice
-pub mod LocalArray
 pub mod SweepBranches
 pub mod ChangeBranches

@@ -11,7 +11,7 @@ use replay_memory::view::{View, next, with_position};
 use replay_memory::write::Write;
 
 // Sizes and views after an access, and the write that is to be inserted.
-#[derive(Drop)]
+#[derive(Clone, Copy)]
 pub struct Change {
     pub shape: MemoryShape,
     pub order: Order,

@@ -8,7 +8,7 @@ use replay_memory::write::{Write, start_write};
 
 // An insertion: `write` goes to entry `at`, behind position `behind` of word `word`; `count` is how many entries are in use afterwards,
 // 0 if nothing is to be inserted. If `covers` is set, the write before it is covered.
-#[derive(Drop)]
+#[derive(Clone, Copy)]
 pub struct Order {
     pub count: usize,
     pub at: usize,
@@ -48,7 +48,7 @@ pub fn start_order(x: u8, value: u8) -> Order
 }
 
 // What one entry is given, and the write that is carried on to the next entry.
-#[derive(Drop)]
+#[derive(Clone, Copy)]
 pub struct Turn {
     pub put: Write,
     pub next: Write,

@@ -1,4 +1,4 @@
-// The two functions that touch an entry of the caller's table. Each is proved by a walk of its code, by hand, so each is thin.
+// The two functions that touch an entry of the caller's table.
 ghost use Rattle.std.specs.Prelude.{◌≡◌, get_or};
 ghost use Rattle.replay_table.specs.Sweep.{swept_of};
 

@@ -3,18 +3,13 @@ use Rattle.replay_table.proofs.ChangeBranches.{grow_made}
 use borrow.Author.Rules.{rules}
 use Rattle.replay_table.proofs.access.grow_by.Statement.{statement}
 use Rattle.replay_table.proofs.access.grow_by.Tie as tie
-use Rattle.replay_table.proofs.access.grow_by.Reads as reads
-use Rattle.replay_table.proofs.access.grow_by.Lts as lts
-use Rattle.replay_memory.proofs.insert.grow.Reads as grow-reads
-use Rattle.replay_memory.proofs.memory.with_view.Reads as with-view-reads
-use Rattle.replay_table.proofs.access.insertion.Reads as insertion-reads
 
 -- src/access.rt:100:26
 grow-requires : tie.Need-grow-requires
 grow-requires c κs = search rules
 
 -- src/access.rt:100:16
-with-view-requires : tie.Need-with-view-requires
+with-view-requires : tie.Need-with_view-requires
 with-view-requires c κs = search rules
 
 -- src/access.rt:101:16

@@ -3,26 +3,21 @@ use Rattle.replay_table.proofs.ChangeBranches.{order_made}
 use borrow.Author.Rules.{rules}
 use Rattle.replay_table.proofs.access.insertion.Statement.{statement}
 use Rattle.replay_table.proofs.access.insertion.Tie as tie
-use Rattle.replay_table.proofs.access.insertion.Reads as reads
-use Rattle.replay_table.proofs.access.insertion.Lts as lts
-use Rattle.replay_memory.proofs.memory.first_of.Reads as first-of-reads
-use Rattle.replay_memory.proofs.memory.index_of.Reads as index-of-reads
-use Rattle.replay_memory.proofs.view.next.Reads as next-reads
 
 -- src/access.rt:78:25
-slice-aggregate-first-of : tie.Need-slice-aggregate-first-of
+slice-aggregate-first-of : tie.Need-slice_bounds-first_of-end
 slice-aggregate-first-of c = search rules
 
 -- src/access.rt:78:16
-first-of-requires : tie.Need-first-of-requires
+first-of-requires : tie.Need-first_of-requires
 first-of-requires c κs = search rules
 
 -- src/access.rt:78:16
-add-t11 : tie.Need-overflow-add-t11
+add-t11 : tie.Need-overflow_add-result
 add-t11 c = search rules
 
 -- src/access.rt:79:22
-slice-aggregate-index-of : tie.Need-slice-aggregate-index-of
+slice-aggregate-index-of : tie.Need-slice_bounds-index_of-end
 slice-aggregate-index-of c = search rules
 
 -- src/access.rt:79:33
@@ -30,7 +25,7 @@ next-requires : tie.Need-next-requires
 next-requires c κs = search rules
 
 -- src/access.rt:79:13
-index-of-requires : tie.Need-index-of-requires
+index-of-requires : tie.Need-index_of-requires
 index-of-requires c κs = search rules
 
 -- src/access.rt:66:1

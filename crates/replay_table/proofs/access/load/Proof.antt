@@ -3,23 +3,17 @@ use Rattle.replay_table.proofs.ChangeBranches.{load_made}
 use borrow.Author.Rules.{rules}
 use Rattle.replay_table.proofs.access.load.Statement.{statement}
 use Rattle.replay_table.proofs.access.load.Tie as tie
-use Rattle.replay_table.proofs.access.load.Reads as reads
-use Rattle.replay_table.proofs.access.load.Lts as lts
-use Rattle.replay_memory.proofs.access.read_view.Reads as read-view-reads
-use Rattle.replay_memory.proofs.memory.view_of.Reads as view-of-reads
-use Rattle.replay_memory.proofs.memory.with_view.Reads as with-view-reads
-use Rattle.replay_table.proofs.access.unchanged.Reads as unchanged-reads
 
 -- src/access.rt:48:33
-view-of-requires : tie.Need-view-of-requires
+view-of-requires : tie.Need-view_of-requires
 view-of-requires c κs = search rules
 
 -- src/access.rt:48:9
-read-view-requires : tie.Need-read-view-requires
+read-view-requires : tie.Need-read_view-view-requires
 read-view-requires c κs = search rules
 
 -- src/access.rt:49:15
-with-view-requires : tie.Need-with-view-requires
+with-view-requires : tie.Need-with_view-requires
 with-view-requires c κs = search rules
 
 -- src/access.rt:49:5

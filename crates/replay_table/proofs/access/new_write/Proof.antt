@@ -3,17 +3,13 @@ use Rattle.replay_table.proofs.ChangeBranches.{write_made}
 use borrow.Author.Rules.{rules}
 use Rattle.replay_table.proofs.access.new_write.Statement.{statement}
 use Rattle.replay_table.proofs.access.new_write.Tie as tie
-use Rattle.replay_table.proofs.access.new_write.Reads as reads
-use Rattle.replay_table.proofs.access.new_write.Lts as lts
-use Rattle.replay_memory.proofs.view.next.Reads as next-reads
-use Rattle.replay_memory.proofs.view.with_position.Reads as with-position-reads
 
 -- src/access.rt:56:41
 next-requires : tie.Need-next-requires
 next-requires c κs = search rules
 
 -- src/access.rt:56:9
-with-position-requires : tie.Need-with-position-requires
+with-position-requires : tie.Need-with_position-stored-requires
 with-position-requires c κs = search rules
 
 -- src/access.rt:53:1

@@ -3,22 +3,17 @@ use Rattle.replay_table.proofs.ChangeBranches.{store_made}
 use borrow.Author.Rules.{rules}
 use Rattle.replay_table.proofs.access.store.Statement.{statement}
 use Rattle.replay_table.proofs.access.store.Tie as tie
-use Rattle.replay_table.proofs.access.store.Reads as reads
-use Rattle.replay_table.proofs.access.store.Lts as lts
-use Rattle.replay_memory.proofs.memory.view_of.Reads as view-of-reads
-use Rattle.replay_table.proofs.access.grow_by.Reads as grow-by-reads
-use Rattle.replay_table.proofs.access.new_write.Reads as new-write-reads
 
 -- src/access.rt:117:45
-view-of-requires : tie.Need-view-of-requires
+view-of-requires : tie.Need-view_of-requires
 view-of-requires c κs = search rules
 
 -- src/access.rt:117:9
-new-write-requires : tie.Need-new-write-requires
+new-write-requires : tie.Need-new_write-write-requires
 new-write-requires c κs = search rules
 
 -- src/access.rt:118:5
-grow-by-requires : tie.Need-grow-by-requires
+grow-by-requires : tie.Need-grow_by-requires
 grow-by-requires c κs = search rules
 
 -- src/access.rt:106:1

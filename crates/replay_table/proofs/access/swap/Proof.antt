@@ -3,27 +3,21 @@ use Rattle.replay_table.proofs.ChangeBranches.{swap_made}
 use borrow.Author.Rules.{rules}
 use Rattle.replay_table.proofs.access.swap.Statement.{statement}
 use Rattle.replay_table.proofs.access.swap.Tie as tie
-use Rattle.replay_table.proofs.access.swap.Reads as reads
-use Rattle.replay_table.proofs.access.swap.Lts as lts
-use Rattle.replay_memory.proofs.access.swap_view.Reads as swap-view-reads
-use Rattle.replay_memory.proofs.memory.view_of.Reads as view-of-reads
-use Rattle.replay_table.proofs.access.grow_by.Reads as grow-by-reads
-use Rattle.replay_table.proofs.access.new_write.Reads as new-write-reads
 
 -- src/access.rt:133:34
-view-of-requires : tie.Need-view-of-requires
+view-of-requires : tie.Need-view_of-requires
 view-of-requires c κs = search rules
 
 -- src/access.rt:133:9
-swap-view-requires : tie.Need-swap-view-requires
+swap-view-requires : tie.Need-swap_view-view-requires
 swap-view-requires c κs = search rules
 
 -- src/access.rt:134:9
-new-write-requires : tie.Need-new-write-requires
+new-write-requires : tie.Need-new_write-write-requires
 new-write-requires c κs = search rules
 
 -- src/access.rt:135:5
-grow-by-requires : tie.Need-grow-by-requires
+grow-by-requires : tie.Need-grow_by-requires
 grow-by-requires c κs = search rules
 
 -- src/access.rt:122:1

@@ -3,12 +3,9 @@ use Rattle.replay_table.proofs.ChangeBranches.{unchanged_made}
 use borrow.Author.Rules.{rules}
 use Rattle.replay_table.proofs.access.unchanged.Statement.{statement}
 use Rattle.replay_table.proofs.access.unchanged.Tie as tie
-use Rattle.replay_table.proofs.access.unchanged.Reads as reads
-use Rattle.replay_table.proofs.access.unchanged.Lts as lts
-use Rattle.replay_table.proofs.order.no_order.Reads as no-order-reads
 
 -- src/access.rt:33:16
-no-order-requires : tie.Need-no-order-requires
+no-order-requires : tie.Need-no_order-requires
 no-order-requires c κs = search rules
 
 -- src/access.rt:28:1

@@ -3,12 +3,9 @@ use Rattle.replay_table.proofs.SweepBranches.{no_made}
 use borrow.Author.Rules.{rules}
 use Rattle.replay_table.proofs.order.no_order.Statement.{statement}
 use Rattle.replay_table.proofs.order.no_order.Tie as tie
-use Rattle.replay_table.proofs.order.no_order.Reads as reads
-use Rattle.replay_table.proofs.order.no_order.Lts as lts
-use Rattle.replay_memory.proofs.write.start_write.Reads as start-write-reads
 
 -- src/order.rt:32:16
-start-write-requires : tie.Need-start-write-requires
+start-write-requires : tie.Need-start_write-requires
 start-write-requires c κs = search rules
 
 -- src/order.rt:23:1

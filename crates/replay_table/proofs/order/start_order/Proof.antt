@@ -3,16 +3,13 @@ use Rattle.replay_table.proofs.SweepBranches.{start_made}
 use borrow.Author.Rules.{rules}
 use Rattle.replay_table.proofs.order.start_order.Statement.{statement}
 use Rattle.replay_table.proofs.order.start_order.Tie as tie
-use Rattle.replay_table.proofs.order.start_order.Reads as reads
-use Rattle.replay_table.proofs.order.start_order.Lts as lts
-use Rattle.replay_memory.proofs.write.start_write.Reads as start-write-reads
 
 -- src/order.rt:42:16
-add-t4 : tie.Need-overflow-add-t4
+add-t4 : tie.Need-overflow_add-result
 add-t4 c = search rules
 
 -- src/order.rt:47:16
-start-write-requires : tie.Need-start-write-requires
+start-write-requires : tie.Need-start_write-requires
 start-write-requires c κs = search rules
 
 -- src/order.rt:38:1
