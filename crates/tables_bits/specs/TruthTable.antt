@@ -1,6 +1,5 @@
 -- The truth table of a tree, as bits.
 use Rattle.std.specs.Prelude.{ℕ, ◌+◌, ◌*◌, ◌^◌, ◌≤◌, ◌<◌, ◌≡◌, List, [], ◌∷◌, Bool, cond, length, get_or, eqb}
-use Rattle.semantics.specs.Code
 use Rattle.semantics.specs.Code.{Code}
 use Rattle.formula.specs.Codes.{set_of}
 use Rattle.formula.specs.Tree.{Tree}

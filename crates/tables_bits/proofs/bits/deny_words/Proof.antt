@@ -7,10 +7,10 @@ use Rattle.tables_bits.specs.Bits.{deny_words}
 use Rattle.tables_bits.proofs.bits.deny_words.Statement.{statement}
 use Rattle.tables_bits.proofs.bits.deny_words.Tie as tie
 
-abbrev invariant-loop : tie.invariant-loop
+abbrev invariant-loop : tie.invariant-loop-w
 invariant-loop a₀ b w₀ a w = (w ≤ 16) × ((take w a ≡ deny_words w a₀ b) × ((drop w a ≡ drop w a₀) × (length a ≡ 16)))
 
-abbrev decreases-loop : tie.decreases-loop
+abbrev decreases-loop : tie.decreases-loop-w
 decreases-loop a₀ b w₀ a w = 16 - w
 
 pub deny_words_spec : {M : Type 1} → statement M

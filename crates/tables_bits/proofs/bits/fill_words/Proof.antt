@@ -7,10 +7,10 @@ use Rattle.tables_columns.specs.Column.{constant}
 use Rattle.tables_bits.proofs.bits.fill_words.Statement.{statement}
 use Rattle.tables_bits.proofs.bits.fill_words.Tie as tie
 
-abbrev invariant-loop : tie.invariant-loop
+abbrev invariant-loop : tie.invariant-loop-w
 invariant-loop x out₀ w₀ out w = (w ≤ 16) × ((take w out ≡ constant x w) × (length out ≡ 16))
 
-abbrev decreases-loop : tie.decreases-loop
+abbrev decreases-loop : tie.decreases-loop-w
 decreases-loop x out₀ w₀ out w = 16 - w
 
 pub fill_words_spec : {M : Type 1} → statement M

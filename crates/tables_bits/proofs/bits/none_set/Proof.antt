@@ -7,10 +7,10 @@ use Rattle.tables_bits.specs.Bits.{none_set}
 use Rattle.tables_bits.proofs.bits.none_set.Statement.{statement}
 use Rattle.tables_bits.proofs.bits.none_set.Tie as tie
 
-abbrev invariant-loop : tie.invariant-loop
+abbrev invariant-loop : tie.invariant-loop-w
 invariant-loop a n w₀ w = (w ≤ 16) × (none_set a n w ≡ true)
 
-abbrev decreases-loop : tie.decreases-loop
+abbrev decreases-loop : tie.decreases-loop-w
 decreases-loop a n w₀ w = 16 - w
 
 pub none_set_spec : {M : Type 1} → statement M

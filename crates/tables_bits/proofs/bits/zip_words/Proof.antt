@@ -7,10 +7,10 @@ use Rattle.tables_bits.specs.Bits.{words_of}
 use Rattle.tables_bits.proofs.bits.zip_words.Statement.{statement}
 use Rattle.tables_bits.proofs.bits.zip_words.Tie as tie
 
-abbrev invariant-loop : tie.invariant-loop
+abbrev invariant-loop : tie.invariant-loop-w
 invariant-loop code operand a₀ b w₀ a w = (w ≤ 16) × ((take w a ≡ words_of code operand w a₀ b) × ((drop w a ≡ drop w a₀) × (length a ≡ 16)))
 
-abbrev decreases-loop : tie.decreases-loop
+abbrev decreases-loop : tie.decreases-loop-w
 decreases-loop code operand a₀ b w₀ a w = 16 - w
 
 pub zip_words_spec : {M : Type 1} → statement M

@@ -49,84 +49,64 @@ table-at-calls t = (
   combine-words-reads.Learnt,
 )
 
--- src/table.rt:94:9
-table-at-fill-words-requires : (t : ℕ) → table-at-lts.Need-fill-words-requires (table-at-calls t) (table-at-at t) table-at.Post
+table-at-fill-words-requires : (t : ℕ) → table-at-lts.Need-fill_words-requires (table-at-calls t) (table-at-at t) table-at.Post
 table-at-fill-words-requires t c κs = search (table_at_walks, tests)
 
--- src/table.rt:95:9
-table-at-returns : (t : ℕ) → table-at-lts.Need-returns (table-at-calls t) (table-at-at t) table-at.Post
+table-at-returns : (t : ℕ) → table-at-lts.Need-returns-then-left-eq0 (table-at-calls t) (table-at-at t) table-at.Post
 table-at-returns t c = (search (table_at_walks, tests), (search (table_at_grows, tests), search (table_at_bits, tests)))
 
--- src/table.rt:97:9
-table-at-node-at-requires : (t : ℕ) → table-at-lts.Need-node-at-requires (table-at-calls t) (table-at-at t) table-at.Post
+table-at-node-at-requires : (t : ℕ) → table-at-lts.Need-node_at-node-requires (table-at-calls t) (table-at-at t) table-at.Post
 table-at-node-at-requires t c κs = search (table_at_walks, tests)
 
--- src/table.rt:98:8
 table-at-contains-requires : (t : ℕ) → table-at-lts.Need-contains-requires (table-at-calls t) (table-at-at t) table-at.Post
 table-at-contains-requires t c κs = search (table_at_walks, tests)
 
--- src/table.rt:99:9
-table-at-leaf-bits-requires : (t : ℕ) → table-at-lts.Need-leaf-bits-requires (table-at-calls t) (table-at-at t) table-at.Post
+table-at-leaf-bits-requires : (t : ℕ) → table-at-lts.Need-leaf_bits-requires (table-at-calls t) (table-at-at t) table-at.Post
 table-at-leaf-bits-requires t c κs = search (table_at_walks, tests)
 
--- src/table.rt:99:9
-table-at-returns-2 : (t : ℕ) → table-at-lts.Need-returns-2 (table-at-calls t) (table-at-at t) table-at.Post
+table-at-returns-2 : (t : ℕ) → table-at-lts.Need-returns-then-contains (table-at-calls t) (table-at-at t) table-at.Post
 table-at-returns-2 t c = (search (table_at_walks, tests), (search (table_at_grows, tests), search (table_at_bits, tests)))
 
--- src/table.rt:102:9
-table-at-plain-bits-requires : (t : ℕ) → table-at-lts.Need-plain-bits-requires (table-at-calls t) (table-at-at t) table-at.Post
+table-at-plain-bits-requires : (t : ℕ) → table-at-lts.Need-plain_bits-requires (table-at-calls t) (table-at-at t) table-at.Post
 table-at-plain-bits-requires t c κs = search (table_at_walks, tests)
 
--- src/table.rt:103:9
-table-at-returns-3 : (t : ℕ) → table-at-lts.Need-returns-3 (table-at-calls t) (table-at-at t) table-at.Post
+table-at-returns-3 : (t : ℕ) → table-at-lts.Need-returns-then-node-eq0 (table-at-calls t) (table-at-at t) table-at.Post
 table-at-returns-3 t c = (search (table_at_walks, tests), (search (table_at_grows, tests), search (table_at_bits, tests)))
 
--- src/table.rt:106:37
-table-at-sub-table-at : (t : ℕ) → table-at-lts.Need-overflow-sub-table-at (table-at-calls t) (table-at-at t) table-at.Post
+table-at-sub-table-at : (t : ℕ) → table-at-lts.Need-overflow_sub-left (table-at-calls t) (table-at-at t) table-at.Post
 table-at-sub-table-at t c = search (table_at_walks, tests)
 
--- src/table.rt:106:13
-table-at-table-at-requires : (t : ℕ) → table-at-lts.Need-table-at-requires (table-at-calls t) (table-at-at t) table-at.Post
+table-at-table-at-requires : (t : ℕ) → table-at-lts.Need-table_at-k-requires (table-at-calls t) (table-at-at t) table-at.Post
 table-at-table-at-requires t c κs = search (table_at_walks, tests)
 
--- src/table.rt:107:9
-table-at-single-bits-requires : (t : ℕ) → table-at-lts.Need-single-bits-requires (table-at-calls t) (table-at-at t) table-at.Post
+table-at-single-bits-requires : (t : ℕ) → table-at-lts.Need-single_bits-requires (table-at-calls t) (table-at-at t) table-at.Post
 table-at-single-bits-requires t c κs = search (table_at_walks, tests)
 
--- src/table.rt:108:9
-table-at-returns-4 : (t : ℕ) → table-at-lts.Need-returns-4 (table-at-calls t) (table-at-at t) table-at.Post
+table-at-returns-4 : (t : ℕ) → table-at-lts.Need-returns-then-node-eq1 (table-at-calls t) (table-at-at t) table-at.Post
 table-at-returns-4 t c = (search (table_at_walks, tests), (search (table_at_grows, tests), search (table_at_bits, tests)))
 
--- src/table.rt:110:31
-table-at-sub-end-at : (t : ℕ) → table-at-lts.Need-overflow-sub-end-at (table-at-calls t) (table-at-at t) table-at.Post
+table-at-sub-end-at : (t : ℕ) → table-at-lts.Need-overflow_sub-left-2 (table-at-calls t) (table-at-at t) table-at.Post
 table-at-sub-end-at t c = search (table_at_walks, tests)
 
--- src/table.rt:110:9
-table-at-end-at-requires : (t : ℕ) → table-at-lts.Need-end-at-requires (table-at-calls t) (table-at-at t) table-at.Post
+table-at-end-at-requires : (t : ℕ) → table-at-lts.Need-end_at-m-requires (table-at-calls t) (table-at-at t) table-at.Post
 table-at-end-at-requires t c κs = search (table_at_walks, tests)
 
--- src/table.rt:112:28
-table-at-sub-table-at-2 : (t : ℕ) → table-at-lts.Need-overflow-sub-table-at-2 (table-at-calls t) (table-at-at t) table-at.Post
+table-at-sub-table-at-2 : (t : ℕ) → table-at-lts.Need-overflow_sub-left-3 (table-at-calls t) (table-at-at t) table-at.Post
 table-at-sub-table-at-2 t c = search (table_at_walks, tests)
 
--- src/table.rt:112:9
-table-at-table-at-requires-2 : (t : ℕ) → table-at-lts.Need-table-at-requires-2 (table-at-calls t) (table-at-at t) table-at.Post
+table-at-table-at-requires-2 : (t : ℕ) → table-at-lts.Need-table_at-k-requires-2 (table-at-calls t) (table-at-at t) table-at.Post
 table-at-table-at-requires-2 t c κs = search (table_at_walks, tests)
 
--- src/table.rt:113:33
-table-at-sub-table-at-3 : (t : ℕ) → table-at-lts.Need-overflow-sub-table-at-3 (table-at-calls t) (table-at-at t) table-at.Post
+table-at-sub-table-at-3 : (t : ℕ) → table-at-lts.Need-overflow_sub-left-4 (table-at-calls t) (table-at-at t) table-at.Post
 table-at-sub-table-at-3 t c = search (table_at_walks, tests)
 
--- src/table.rt:113:9
-table-at-table-at-requires-3 : (t : ℕ) → table-at-lts.Need-table-at-requires-3 (table-at-calls t) (table-at-at t) table-at.Post
+table-at-table-at-requires-3 : (t : ℕ) → table-at-lts.Need-table_at-e-requires (table-at-calls t) (table-at-at t) table-at.Post
 table-at-table-at-requires-3 t c κs = search (table_at_walks, tests)
 
--- src/table.rt:114:5
-table-at-combine-words-requires : (t : ℕ) → table-at-lts.Need-combine-words-requires (table-at-calls t) (table-at-at t) table-at.Post
+table-at-combine-words-requires : (t : ℕ) → table-at-lts.Need-combine_words-requires (table-at-calls t) (table-at-at t) table-at.Post
 table-at-combine-words-requires t c κs = search (table_at_walks, tests)
 
--- src/table.rt:80:1
-table-at-returns-5 : (t : ℕ) → table-at-lts.Need-returns-5 (table-at-calls t) (table-at-at t) table-at.Post
+table-at-returns-5 : (t : ℕ) → table-at-lts.Need-returns (table-at-calls t) (table-at-at t) table-at.Post
 table-at-returns-5 t c = (search (table_at_walks, tests), (search (table_at_grows, tests), search (table_at_bits, tests)))
 
 pub +table_at_spec : {M : Type 1} → statement M
