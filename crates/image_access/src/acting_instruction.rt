@@ -12,7 +12,7 @@ use image_header::sizes::Sizes;
 
 // An instruction by the roles of its fields. A field that the operation does not use is 0, a formula that it lacks the end of the image.
 // Of a pair, `operation` is the first half's and `whole` the pair's.
-#[derive(Drop)]
+#[derive(Clone, Copy)]
 pub struct Acting {
     pub operation: u8,
     pub whole: u8,

@@ -10,7 +10,7 @@ use image_index::look_up::body_of;
 use limits::read::{u8_at, u16_at};
 
 // Two threads with a point each, and the line that proves that they are never at these points together.
-#[derive(Drop)]
+#[derive(Clone, Copy)]
 pub struct Claimed {
     pub thread: u8,
     pub point: u8,

@@ -14,7 +14,7 @@ use limits::Limits;
 use limits::read::{byte_at, u16_at};
 
 // A line: its rule, thread and point, the positions of its formulas, and the number of its premises.
-#[derive(Drop)]
+#[derive(Clone, Copy)]
 pub struct Line {
     pub rule: u8,
     pub thread: u8,

@@ -13,7 +13,7 @@ use image_index::look_up::body_of;
 use limits::Limits;
 
 // The points of all threads, those before each thread, and the obligations.
-#[derive(Drop)]
+#[derive(Clone, Copy)]
 pub struct Totals {
     pub points: usize,
     // The points of the threads before thread t, at index t - 1.

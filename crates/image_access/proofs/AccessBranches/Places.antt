@@ -28,7 +28,7 @@ use Rattle.image_header.specs.Thread.{last_point}
 use Rattle.image_access.specs.Totals.{points_below, points_before, totals_of}
 use Rattle.image_access.specs.declared.totals.Totals.{Totals}
 use Rattle.image_meaning.specs.Program.{outline_number}
-use Rattle.image_meaning.specs.Certificate.{left, right, line_body}
+use Rattle.image_meaning.specs.Certificate.{line_body}
 use Rattle.image_meaning.specs.Image.{named_line, claim_body}
 use Rattle.image_access.specs.AccessPlaces.{body_start, formula_at, line_in, claimed_in, acts, register_first, acting_of}
 use Rattle.image_access.specs.declared.line.Line.{Line}

@@ -10,12 +10,12 @@ use Rattle.limits.proofs.BranchTests.{tests}
 use Rattle.image_access.proofs.totals.fill_before.Statement.{statement}
 use Rattle.image_access.proofs.totals.fill_before.Tie as tie
 
-abbrev invariant-loop : tie.invariant-loop
+abbrev invariant-loop : tie.invariant-loop-t
 invariant-loop s ix z before₀ sum₀ t₀ before sum t =
     (t ≤ Limits.threads) × ((before ≡ points_below z (bodies s) t)
     × ((length before ≡ Limits.threads) × ((sum ≡ (point_counts_to z (bodies s) t).points) × (sum ≤ 256 * t))))
 
-abbrev decreases-loop : tie.decreases-loop
+abbrev decreases-loop : tie.decreases-loop-t
 decreases-loop s ix z before₀ sum₀ t₀ before sum t = Limits.threads - t
 
 pub fill_before_spec : {M : Type 1} → statement M
