@@ -1,6 +1,5 @@
 -- Tests by rows, and assertions by truth table.
 use Rattle.std.specs.Prelude.{ℕ, ◌-◌, ◌^◌, List, [], ◌∷◌, Bool, false, cond, ltb}
-use Rattle.semantics.specs.Code
 use Rattle.semantics.specs.Code.{Code}
 use Rattle.semantics.specs.Limits
 use Rattle.limits.specs.Limits.{nesting}

@@ -11,7 +11,7 @@ use limits::Limits;
 use tables_digits::value_column::Reading;
 
 // Implications between formulas by their positions. The first is the line, the others are its premises; `count` counts all of them.
-#[derive(Drop)]
+#[derive(Clone, Copy)]
 pub struct Implications {
     pub count: usize,
     pub left: [usize; Sizes::IMPLICATIONS],

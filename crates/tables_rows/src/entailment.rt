@@ -18,7 +18,7 @@ impl Sizes {
 }
 
 // The number of premises after the line, and the greatest nesting of the left and the right sides.
-#[derive(Drop)]
+#[derive(Clone, Copy)]
 pub struct Task {
     pub premises: usize,
     pub left: usize,

@@ -1,4 +1,6 @@
 // Entailment between formulas at every row: tests by rows (rules 21, 23, 24 and 30) and assertions by truth table (rule 20).
+#![tactic(auto)]
+
 pub mod entailment;
 pub mod every_row;
 

@@ -12,12 +12,12 @@ use Rattle.limits.proofs.BranchTests.{tests}
 use Rattle.tables_rows.proofs.by_table.all_bits.Statement.{statement}
 use Rattle.tables_rows.proofs.by_table.all_bits.Tie as tie
 
-abbrev invariant-loop : tie.invariant-loop
+abbrev invariant-loop : tie.invariant-loop-i
 invariant-loop s lefts rights t slots₀ out holds₀ n₀ i₀ slots holds n i =
     (i ≤ t.premises) × ((view s n slots ≡ gather_imps by_leaves.leaves (premises_from s lefts rights t i) (keys []))
     × ((length slots ≡ 36) × ((length holds ≡ 16) × AllBits s n slots (premises_from s lefts rights t i) holds)))
 
-abbrev decreases-loop : tie.decreases-loop
+abbrev decreases-loop : tie.decreases-loop-i
 decreases-loop s lefts rights t slots₀ out holds₀ n₀ i₀ slots holds n i = i
 
 pub all_bits_spec : {M : Type 1} → statement M

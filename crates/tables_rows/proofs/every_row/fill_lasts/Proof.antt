@@ -7,10 +7,10 @@ use Rattle.limits.proofs.BranchTests.{tests}
 use Rattle.tables_rows.proofs.every_row.fill_lasts.Statement.{statement}
 use Rattle.tables_rows.proofs.every_row.fill_lasts.Tie as tie
 
-abbrev invariant-loop : tie.invariant-loop
+abbrev invariant-loop : tie.invariant-loop-j
 invariant-loop s range slots k lasts₀ j₀ lasts j = (j ≤ k) × ((lasts ≡ lasts_of s slots range j) × (length lasts ≡ 12))
 
-abbrev decreases-loop : tie.decreases-loop
+abbrev decreases-loop : tie.decreases-loop-j
 decreases-loop s range slots k lasts₀ j₀ lasts j = k - j
 
 pub fill_lasts_spec : {M : Type 1} → statement M
