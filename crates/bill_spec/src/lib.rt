@@ -1,4 +1,5 @@
 // What a bill is (Changes 8 and 11), and the bill for an accepted image.
+#![tactic(auto)]
 
 // Obligations counted by class and priced by a tariff, for each thread and in total.
 pub mod accounts;
