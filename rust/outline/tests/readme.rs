@@ -30,11 +30,13 @@ fn the_readme_is_one_page() {
     assert_eq!(too_long(&path, CHARACTERS), []);
 }
 
+/// The notes of landings and of the port are left out: they tell what was then, with older text beside the new.
 #[test]
 fn no_document_has_long_lines() {
     let folder = std::fs::read_dir(root().join("docs")).expect("the documents");
     let mut pages: Vec<PathBuf> = folder.map(|entry| entry.expect("a document").path()).collect();
     pages.retain(|path| path.extension().is_some_and(|end| end == "md"));
+    pages.retain(|path| !path.ends_with("PORT.md"));
     assert!(pages.len() >= 6, "{pages:?}");
     pages.extend(["CONTRIBUTING.md", "CHANGELOG.md"].map(|name| root().join(name)));
     for path in pages {
