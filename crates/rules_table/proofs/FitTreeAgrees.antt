@@ -3,7 +3,7 @@ use mathlib.Core.Path.{◌≡◌, refl, ap, ap₂, sym, ◌∙◌, subst, subst�
 use mathlib.Core.Bool.{Bool, true, false, not, ◌&&◌}
 use mathlib.Core.List.{List, [], ◌∷◌, ◌++◌, map}
 use mathlib.Core.Option.{Option, none, some}
-use Prim.Native.Nat.{ℕ, suc, ◌-◌, ◌≤◌}
+use Prim.Native.Nat.{ℕ, suc, ◌≤◌}
 use native.Mathlib.Omega.{arith}
 use lib.Dec.{T, eqb, leb, eqb→eq, eqb_refl}
 use borrow.Author.Tests.{eqb-true}
@@ -19,7 +19,6 @@ use Rattle.logic.specs.Statement
 use Rattle.logic.specs.Statement.{Statement, half, is_imp}
 use Rattle.logic_schemas.specs.Pattern
 use Rattle.logic_schemas.specs.Pattern.{Pattern, Given, Fill, number, inst}
-use Rattle.logic_schemas.specs.Rules
 use Rattle.logic.specs.Rule.{Rule}
 use Rattle.logic_schemas.specs.Rules.{Shape, Shape.inside, Shape.implies, Shape.triple, Shape.pair, Premises, these, implications, By, by_notes, r_by_x, x_by_f, Side, ◌is◌with◌, start_of, starts_at_0, is_new, kept, lacks_x, no_flag, by_rows, by_table, Row, row}
 use Rattle.logic.specs.Inference.{keeps}

@@ -90,7 +90,7 @@ impl Operations {
 // A row: where the rule's templates begin; the operations that it allows, a bit each; the form of its lines; how many premises, and their
 // forms, two bits each from the lowest (rule 20 has 5 here and any number up to four); its side condition. A row has eight bytes and no
 // gap, because the table is made anew for each look-up.
-#[derive(Drop)]
+#[derive(Clone, Copy)]
 pub struct Rule {
     pub template: u16,
     pub operations: u16,
