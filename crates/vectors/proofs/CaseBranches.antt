@@ -1,7 +1,8 @@
 -- The next case of a file.
 use Rattle.std.proofs.Common.{◌≡◌, ℕ, ◌≤◌, List, length, take, sym, subst}
+use Rattle.std.specs.declared.io.Error.{Error}
 use Rattle.std.specs.Counts.{IsPrefixLen}
-use Rattle.io.proofs.Counting.{prefix_len_of_le}
+use Rattle.input.proofs.Counting.{prefix_len_of_le}
 use Rattle.input.specs.declared.Filled.{Filled}
 use Rattle.input.specs.declared.Filled.TheVariants.{Full, Ended, Failed}
 use Rattle.vectors.specs.Next.{next_by, Fits}
@@ -19,9 +20,9 @@ module _ (p : Filled) (n : ℕ) where
   unfolding next_by
   next_ended k e = rw e
 
-  pub next_failed : p ≡ Failed → Over Unread ≡ next_by p n
+  pub next_failed : (x : Error) → p ≡ Failed x → Over (Unread x) ≡ next_by p n
   unfolding next_by
-  next_failed e = rw e
+  next_failed x e = rw e
 
 pub ruleset next_by_branches = (next_full, next_ended, next_failed)
 
@@ -29,7 +30,7 @@ pub next_fits : (p : Filled) (n : ℕ) (r : Next) (l : List ℕ) → n ≤ lengt
 unfolding next_by Fits
 next_fits Full n r l h e = subst (λ x. Fits x l) (sym e) (prefix_len_of_le n l h)
 next_fits (Ended k) n r l h e = subst (λ x. Fits x l) (sym e) tt
-next_fits Failed n r l h e = subst (λ x. Fits x l) (sym e) tt
+next_fits (Failed x) n r l h e = subst (λ x. Fits x l) (sym e) tt
 
 pub over_fits : (e : End) (l : List ℕ) → Fits (Over e) l
 unfolding Fits

@@ -1,5 +1,6 @@
 -- The ways through the functions of a tally, one law for each.
 use Rattle.std.proofs.Common.{◌≡◌, ℕ, ◌<◌, ◌≤◌, Bool, true, false, not, eqb, get_or, set, le-ltb, lt-ltb, eq-eqb, ne_eqb}
+use Rattle.std.specs.declared.io.Error.{Error}
 use Rattle.vectors.specs.End.{is_whole}
 use Rattle.vectors.specs.Counters.{kinds_limit, more, with_kind, with_difference, with_case}
 use Rattle.vectors.specs.declared.end.End.{End}
@@ -46,9 +47,9 @@ module _ (e : End) (n : ℕ) where
   unfolding is_whole
   whole_cut h = rw h
 
-  pub whole_unread : e ≡ Unread → false ≡ is_whole e n
+  pub whole_unread : (x : Error) → e ≡ Unread x → false ≡ is_whole e n
   unfolding is_whole
-  whole_unread h = rw h
+  whole_unread x h = rw h
 
   pub whole_large : e ≡ Large → false ≡ is_whole e n
   unfolding is_whole

@@ -11,6 +11,6 @@ end_after n = cond (n == 0) Whole Cut
 unfoldable pub is_whole : End → ℕ → Bool
 is_whole Whole n = not (n == 0)
 is_whole Cut n = false
-is_whole Unread n = false
+is_whole (Unread e) n = false
 is_whole Large n = false
 is_whole Many n = false

@@ -11,7 +11,7 @@ use Rattle.vectors.specs.declared.case.Next.TheVariants.{Case, Over}
 unfoldable pub next_by : Filled → ℕ → Next
 next_by Full n = Case n
 next_by (Ended k) n = Over Cut
-next_by Failed n = Over Unread
+next_by (Failed e) n = Over (Unread e)
 
 -- a body is at the start of the space for it
 unfoldable pub Fits : Next → List ℕ → Type 0

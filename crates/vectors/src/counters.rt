@@ -5,7 +5,7 @@ ghost use Rattle.vectors.specs.Counters.{more, no_case, with_kind, with_differen
 use crate::end::End;
 
 // What is counted over the cases of a file.
-#[derive(Drop)]
+#[derive(Clone, Copy)]
 pub struct Counters {
     pub cases: u64,
     // How many answers there are of each kind.
@@ -25,7 +25,7 @@ impl Kind {
 }
 
 // The counters of the whole cases before the end. An enum holds no array, so the counters are beside it.
-#[derive(Drop)]
+#[derive(Clone, Copy)]
 pub struct Judged {
     pub end: End,
     pub tally: Counters,

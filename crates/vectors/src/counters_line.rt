@@ -1,49 +1,49 @@
 // Counters, written to standard output.
 use crate::counters::{Counters, Kind};
-use libc::STDOUT_FILENO;
+use crate::stream::{put, put_number};
 
 // Writes a number and what it counts.
-pub fn write_count(n: u64, what: &[u8]) {
-    io::print_decimal(STDOUT_FILENO, n);
-    io::write_all(STDOUT_FILENO, what);
+pub fn write_count<W: Print>(out: &W, n: u64, what: &[u8]) {
+    put_number(out, n);
+    put(out, what);
 }
 
 // Writes how many cases differ, which is the first, and a newline.
-pub fn write_differences(counters: Counters) {
-    write_count(counters.differ, b" differ");
+pub fn write_differences<W: Print>(out: &W, counters: Counters) {
+    write_count(out, counters.differ, b" differ");
     if counters.differ != 0 {
-        write_first(counters.first);
+        write_first(out, counters.first);
     }
-    io::write_all(STDOUT_FILENO, b"\n");
+    put(out, b"\n");
 }
 
-fn write_first(number: u64) {
-    io::write_all(STDOUT_FILENO, b", first case ");
-    io::print_decimal(STDOUT_FILENO, number);
+fn write_first<W: Print>(out: &W, number: u64) {
+    put(out, b", first case ");
+    put_number(out, number);
 }
 
 // Writes how many answers have a code, if any has.
-fn write_code(n: u64, code: usize) {
+fn write_code<W: Print>(out: &W, n: u64, code: usize) {
     if n == 0 {
         return;
     }
-    io::write_all(STDOUT_FILENO, b", ");
-    write_count(n, b" of code ");
-    io::print_decimal(STDOUT_FILENO, code as u64);
+    put(out, b", ");
+    write_count(out, n, b" of code ");
+    put_number(out, code as u64);
 }
 
-fn write_codes(counters: Counters) {
+fn write_codes<W: Print>(out: &W, counters: Counters) {
     for code in 0..Kind::LIMIT {
-        write_code(counters.kinds[code], code);
+        write_code(out, counters.kinds[code], code);
     }
 }
 
 // Writes the line for a file whose answers are counted by their codes.
-pub fn write_line(path: &[u8], counters: Counters) {
-    io::write_all(STDOUT_FILENO, path);
-    io::write_all(STDOUT_FILENO, b": ");
-    write_count(counters.cases, b" cases");
-    write_codes(counters);
-    io::write_all(STDOUT_FILENO, b"; ");
-    write_differences(counters);
+pub fn write_line<W: Print>(out: &W, path: &[u8], counters: Counters) {
+    put(out, path);
+    put(out, b": ");
+    write_count(out, counters.cases, b" cases");
+    write_codes(out, counters);
+    put(out, b"; ");
+    write_differences(out, counters);
 }

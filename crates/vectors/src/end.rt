@@ -2,15 +2,17 @@
 ghost use Rattle.std.specs.Prelude.{◌≡◌};
 ghost use Rattle.vectors.specs.End.{end_after, is_whole};
 
+use std::io::Error;
+
 // How the reading of cases ended.
-#[derive(Drop)]
+#[derive(Clone, Copy)]
 pub enum End {
     // The file ends behind its last case.
     Whole,
     // The file ends within a case.
     Cut,
-    // A read failed.
-    Unread,
+    // A read failed, with this error.
+    Unread(Error),
     // A case is longer than the space for it.
     Large,
     // There are more cases than are judged.
@@ -34,7 +36,7 @@ pub fn is_whole(end: End, cases: u64) -> bool
     match end {
         End::Whole => cases != 0,
         End::Cut => false,
-        End::Unread => false,
+        End::Unread(_) => false,
         End::Large => false,
         End::Many => false,
     }

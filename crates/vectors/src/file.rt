@@ -1,26 +1,55 @@
 // Files of cases, named by the arguments.
+ghost use Rattle.std.specs.Prelude.{◌≤◌, length};
 ghost use Rattle.vectors.specs.File.{Named};
+
+use crate::complaint::{complain, fail};
+use std::env::FillError;
+use std::rt::{Env, Files};
+use std::{fs, str};
 
 // A file that is open for reading, with its name at the start of a buffer; or none, and standard error says why.
 #[derive(Drop)]
-pub enum File {
-    Open { fd: i32, name: usize },
+pub enum File<F> {
+    Open { file: F, name: usize },
     Missing,
 }
 
 // Opens the file that the argument `number` names. Its name goes to the start of `path`.
-pub fn open_argument(number: usize, path: &mut [u8]) -> File
+pub fn open_argument<R: Env + Files, E: Print>(
+    rt: &R,
+    err: &E,
+    number: usize,
+    path: &mut [u8],
+) -> File<R::File>
     ensures { Named result path.new }
 {
-    let name = os::arg(number, path);
-    if os::errno() != 0 {
-        os::fail(b"the file of cases");
-        return File::Missing;
+    match rt.arg(number, path) {
+        Ok(name) => open_named(rt, err, path, name),
+        Err(FillError::NotPresent) => {
+            complain(err, b"the file of cases", b"no argument names it");
+            File::Missing
+        }
+        Err(FillError::TooLong) => {
+            complain(err, b"the file of cases", b"its name is too long");
+            File::Missing
+        }
     }
-    let fd = os::open_read(&path[..name]);
-    if fd < 0 {
-        os::fail(&path[..name]);
+}
+
+// Opens the file whose name has `name` bytes at the start of `path`.
+fn open_named<R: Files, E: Print>(rt: &R, err: &E, path: &[u8], name: usize) -> File<R::File>
+    requires { name ≤ length path.now }
+    ensures { Named result path.now }
+{
+    let Ok(text) = str::from_utf8(&path[..name]) else {
+        complain(err, &path[..name], b"the name is not UTF-8");
         return File::Missing;
+    };
+    match fs::open(rt, text) {
+        Ok(file) => File::Open { file, name },
+        Err(error) => {
+            fail(err, &path[..name], error);
+            File::Missing
+        }
     }
-    File::Open { fd, name }
 }

@@ -6,6 +6,8 @@
 // A contract cannot speak of what an operating system call read or wrote. So a function that reads promises only how much of a buffer it
 // filled, and one that writes promises nothing; what follows from the bytes is left to functions on slices and values, which equal their
 // definitions.
+#![tactic(auto)]
+
 pub mod case;
 pub mod complaint;
 pub mod counters;
@@ -15,6 +17,7 @@ pub mod file;
 pub mod number;
 pub mod room;
 pub mod space;
+pub mod stream;
 
 // The parts of a case, and the answers of replays compared with the stored ones.
 pub mod call_answer;

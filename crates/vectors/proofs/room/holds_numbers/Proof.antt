@@ -4,10 +4,10 @@ use Rattle.vectors.proofs.RoomBranches.{Left, rooms}
 use Rattle.vectors.proofs.room.holds_numbers.Statement.{statement}
 use Rattle.vectors.proofs.room.holds_numbers.Tie as tie
 
-abbrev invariant-loop : tie.invariant-loop
+abbrev invariant-loop : tie.invariant-loop-i
 invariant-loop room front rest i₀ i = (length front ≤ length room) × Left room front rest i
 
-abbrev decreases-loop : tie.decreases-loop
+abbrev decreases-loop : tie.decreases-loop-i
 decreases-loop room front rest i₀ i = length room - i
 
 pub holds_numbers_spec : {M : Type 1} → statement M
