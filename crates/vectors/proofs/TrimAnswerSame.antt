@@ -1,5 +1,5 @@
 -- Answers that compare as the same have the stored code and length, the stored bytes in front of the room, and the rest of it as it was.
-use Rattle.std.proofs.Common.{◌≡◌, ℕ, T, eqb, List, ◌++◌, length, replicate, eqb→eq}
+use Rattle.std.proofs.Common.{◌≡◌, ℕ, T, List, ◌++◌, length, replicate, eqb→eq}
 use Rattle.semantics.proofs.Base.{and_left, and_right}
 use Rattle.vectors.proofs.RoomBranches.{holds_equal}
 use Rattle.vectors.specs.TrimAnswer.{blank, code_at, same_answer}

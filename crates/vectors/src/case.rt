@@ -53,11 +53,7 @@ fn read_body<'a, 'b, R: Read>(
 }
 
 // Reads the next case: its body to the start of `space`, its tail to all of `tail`.
-pub fn read_case<'a, 'b, R: Read>(
-    reader: &mut R,
-    space: &'a mut [u8],
-    tail: &'b mut [u8],
-) -> Next
+pub fn read_case<'a, 'b, R: Read>(reader: &mut R, space: &'a mut [u8], tail: &'b mut [u8]) -> Next
     ensures { Fits result space.new }
 {
     let mut size = [0u8; Size::BYTES];

@@ -14,6 +14,20 @@ pub enum File<F> {
     Missing,
 }
 
+// The room for a file's name.
+#[derive(Drop)]
+pub struct Name;
+
+impl Name {
+    // The system opens no file with a longer name.
+    pub const BYTES: usize = 4096;
+}
+
+// Whether the program has so many arguments.
+pub fn has_argument<R: Env>(rt: &R, number: usize) -> bool {
+    !matches!(rt.arg(number, &mut []), Err(FillError::NotPresent))
+}
+
 // Opens the file that the argument `number` names. Its name goes to the start of `path`.
 pub fn open_argument<R: Env + Files, E: Print>(
     rt: &R,

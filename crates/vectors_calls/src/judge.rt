@@ -9,6 +9,7 @@ use crate::kind::{Kind, Tail, tail_of};
 use crate::replays::with_replay;
 use crate::trims::with_trimmed;
 use crate::verdicts::with_verdict;
+use std::io::Read;
 use vectors::case::{Next, read_case};
 use vectors::counters::{Counters, Judged, no_case};
 use vectors::end::End;
@@ -29,7 +30,7 @@ fn with_call<'a, 'b>(kind: Kind, counters: Counters, body: &'a [u8], bytes: &'b 
 }
 
 // Judges the cases of a file of this kind.
-pub fn judge_all(fd: i32, kind: Kind) -> Judged
+pub fn judge_all<R: Read>(reader: &mut R, kind: Kind) -> Judged
     ensures { FromCases result.tally }
 {
     let mut space = space_for_body();
@@ -39,7 +40,7 @@ pub fn judge_all(fd: i32, kind: Kind) -> Judged
     // One case more than is judged shows that there are too many.
     let mut left = Judged::MOST + 1;
     while 0 < left {
-        match read_case(fd, &mut space, &mut stored[..tail]) {
+        match read_case(reader, &mut space, &mut stored[..tail]) {
             Next::Case(n) => {
                 tally = with_call(kind, tally, &space[..n], &stored[..tail]);
                 left -= 1;

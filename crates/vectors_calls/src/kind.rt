@@ -8,7 +8,7 @@ use vectors::room::holds_bytes;
 use vectors::trim_answer::Stored as TrimStored;
 
 // The calls of a file.
-#[derive(Drop)]
+#[derive(Clone, Copy)]
 pub enum Kind {
     Verdicts,
     Trims,

@@ -7,6 +7,7 @@ ghost use Rattle.vectors_formulas.specs.Judge.{counts_at, with_formula};
 use crate::answer::{is_answer, kind_of};
 use formula::reader::{Counts, read_formula};
 use limits::read::{byte_at, u16_at};
+use std::io::Read;
 use vectors::case::{Next, read_case};
 use vectors::counters::{Counters, Judged, no_case, with_case};
 use vectors::end::End;
@@ -17,6 +18,9 @@ struct Stored;
 
 impl Stored {
     pub const BYTES: usize = 8;
+
+    // The space for a formula, which is far shorter.
+    pub const SPACE: usize = 4096;
 }
 
 // The numbers of threads, words, registers and values in a tail.
@@ -41,17 +45,16 @@ fn with_formula<'a, 'b>(counters: Counters, body: &'a [u8], stored: &'b [u8]) ->
 }
 
 // Judges the cases of a file.
-pub fn judge_all(fd: i32) -> Judged
+pub fn judge_all<R: Read>(reader: &mut R) -> Judged
     ensures { FromCases result.tally }
 {
-    // A formula is far shorter than this buffer.
-    let mut space = io::buffer();
+    let mut space = [0u8; Stored::SPACE];
     let mut stored = [0u8; Stored::BYTES];
     let mut tally = no_case();
     // One case more than is judged shows that there are too many.
     let mut left = Judged::MOST + 1;
     while 0 < left {
-        match read_case(fd, &mut space, &mut stored) {
+        match read_case(reader, &mut space, &mut stored) {
             Next::Case(n) => {
                 tally = with_formula(tally, &space[..n], &stored);
                 left -= 1;

@@ -10,6 +10,7 @@ use limits::Limits;
 use service::entry::{serve_bill, serve_check, serve_trim};
 use service::open::open_service;
 use service_spec::rights::Service;
+use std::io::Read;
 use vectors::case::{Next, read_case};
 use vectors::counters::{Counters, Judged, no_case, with_case};
 use vectors::end::End;
@@ -162,7 +163,7 @@ fn with_turn<'a, 'b, 'c>(
 }
 
 // Judges the turns of a file, each with the front of the service that it passes; before the first one no caller has a right.
-pub fn judge_all(fd: i32) -> Judged
+pub fn judge_all<R: Read>(reader: &mut R) -> Judged
     ensures { FromCases result.tally }
 {
     let mut space = space_for_body();
@@ -172,7 +173,7 @@ pub fn judge_all(fd: i32) -> Judged
     // One case more than is judged shows that there are too many.
     let mut left = Judged::MOST + 1;
     while 0 < left {
-        match read_case(fd, &mut space, &mut stored) {
+        match read_case(reader, &mut space, &mut stored) {
             Next::Case(n) => {
                 let lent = service_at(&stored);
                 tally = with_turn(tally, &mut service[..lent], &space[..n], &stored);

@@ -4,6 +4,7 @@ use mathlib.Core.List.{List, []}
 use Prim.Native.Nat.{ℕ, ◌≤◌}
 use native.Mathlib.Omega.{arith}
 use lib.ListN.{length, take, drop}
+use Rattle.std.specs.declared.io.Error.{Error}
 use Rattle.limits.specs.Limits as Limits
 use Rattle.input.specs.declared.Filled.{Filled}
 use Rattle.input.specs.declared.Filled.TheVariants.{Full, Ended, Failed}
@@ -29,9 +30,9 @@ module _ (how : Filled) (s x : List ℕ) where
   unfolding line_for
   line_ended n p e d q = rw (e, ← d) q
 
-pub line_failed : (how : Filled) (s : List ℕ) → how ≡ Failed → [] ≡ line_for how s
+pub line_failed : (how : Filled) (s : List ℕ) (x : Error) → how ≡ Failed x → [] ≡ line_for how s
 unfolding line_for
-line_failed how s e = rw e
+line_failed how s x e = rw e
 
 pub ruleset line_branches = (line_judged, line_full, line_ended, line_failed)
 

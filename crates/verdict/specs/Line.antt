@@ -16,7 +16,7 @@ line_of image = text_of (fields_of (verdict_within Limits.program_bytes image))
 unfoldable pub line_for : Filled → List ℕ → List ℕ
 line_for Full buffer = line_of buffer
 line_for (Ended n) buffer = line_of (take n buffer)
-line_for Failed buffer = []
+line_for (Failed e) buffer = []
 
 -- the line is the one for what filled the buffer, whatever that was
 pub record Answers (buffer line : List ℕ) : Type 0 where

@@ -1,5 +1,5 @@
 // The line of text for what was read from the input.
-ghost use Rattle.std.specs.Prelude.{◌≡◌, ◌≤◌, take};
+ghost use Rattle.std.specs.Prelude.{◌≡◌, ◌≤◌, take, IfOk};
 ghost use Rattle.verdict_record.specs.Text.{room};
 ghost use Rattle.verdict.specs.Line.{line_of, line_for, Answers};
 
@@ -7,6 +7,8 @@ use checker::judge::judge_within;
 use input::{Filled, fill};
 use limits::Limits;
 use limits::read::part;
+use std::io;
+use std::io::Read;
 use verdict_record::text::{Line, Text, text_of};
 use verdict_record::verdict::fields_of;
 
@@ -24,17 +26,21 @@ fn line_for(filled: Filled, buf: &[u8]) -> Text
     match filled {
         Filled::Full => line_of(buf),
         Filled::Ended(n) => line_of(part(buf, 0, n)),
-        Filled::Failed => Text {
+        Filled::Failed(_) => Text {
             bytes: [0; Line::ROOM],
             len: 0,
         },
     }
 }
 
-// Reads the input into the buffer and returns the line for it.
-pub fn answer(fd: i32, buf: &mut [u8]) -> Text
-    ensures { Answers buf.new (take result.len result.bytes) × (result.len ≤ room) }
+// Reads the input into the buffer and returns the line for it, or the error of the read that failed; then nothing is judged, and what the
+// buffer holds is not said.
+pub fn answer<R: Read>(reader: &mut R, buf: &mut [u8]) -> io::Result<Text>
+    ensures { IfOk result (λ text. Answers buf.new (take text.len text.bytes) × (text.len ≤ room)) }
 {
-    let filled = fill(fd, buf);
-    line_for(filled, buf)
+    let filled = fill(reader, buf);
+    if let Filled::Failed(error) = filled {
+        return Err(error);
+    }
+    Ok(line_for(filled, buf))
 }

@@ -6,10 +6,10 @@ use Rattle.vectors.proofs.CallAnswerBranches.{told_few}
 use Rattle.vectors.proofs.call_answer.same_numbers.Statement.{statement}
 use Rattle.vectors.proofs.call_answer.same_numbers.Tie as tie
 
-abbrev invariant-loop : tie.invariant-loop
+abbrev invariant-loop : tie.invariant-loop-i
 invariant-loop code room s i₀ i = (length (told_at code s) ≤ length room) × Left room (told_at code s) empty i
 
-abbrev decreases-loop : tie.decreases-loop
+abbrev decreases-loop : tie.decreases-loop-i
 decreases-loop code room s i₀ i = length room - i
 
 pub same_numbers_spec : {M : Type 1} → statement M

@@ -4,10 +4,10 @@ use Rattle.vectors.proofs.U32Equal.{Left, turn_same_branches}
 use Rattle.vectors.proofs.turn_same.same_wide.Statement.{statement}
 use Rattle.vectors.proofs.turn_same.same_wide.Tie as tie
 
-abbrev invariant-loop : tie.invariant-loop
+abbrev invariant-loop : tie.invariant-loop-i
 invariant-loop l s at i₀ i = (i ≤ length l) × ((at < 2 ^ 16) × Left l s at i)
 
-abbrev decreases-loop : tie.decreases-loop
+abbrev decreases-loop : tie.decreases-loop-i
 decreases-loop l s at i₀ i = length l - i
 
 pub same_wide_spec : {M : Type 1} → statement M
