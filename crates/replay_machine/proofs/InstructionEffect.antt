@@ -12,7 +12,6 @@ use Rattle.semantics.specs.Eval.{value, test, bounded, on_regs}
 use Rattle.logic.specs.Opcode as Opcode
 use Rattle.semantics.specs.Machine.{State, Program, worked}
 use Rattle.semantics.proofs.Invariant.{Wf}
-use Rattle.limits.specs.Limits as Limits
 use Rattle.limits.specs.Numbers.{nth}
 use Rattle.limits.proofs.PassedTests.{and_true}
 use Rattle.image_frames.specs.Records.{bodies}
@@ -20,7 +19,7 @@ use Rattle.formula.specs.Codes as Codes
 use Rattle.formula_trees.specs.ToTree.{to_tree}
 use Rattle.image_header.specs.declared.sizes.Sizes.{Sizes}
 use Rattle.image_header.specs.declared.instruction.Instruction.{Instruction}
-use Rattle.image_header.specs.Header.{counted, headed, header}
+use Rattle.image_header.specs.Header.{headed, header}
 use Rattle.image_header.specs.Instruction.{twofold, fields_of, ranged}
 use Rattle.image_header.specs.Thread.{last_point}
 use Rattle.image_header.proofs.HeaderBranches.{Counted, counted_in}

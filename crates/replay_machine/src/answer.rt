@@ -5,7 +5,7 @@ ghost use Rattle.replay_machine.specs.Answer.{size, answer_of, numbers_of};
 use crate::replayed::Replayed;
 
 // The code, the steps taken, the points of threads 1 to 4, registers 1 to 16; 0 for those that are not there.
-#[derive(Drop)]
+#[derive(Clone, Copy)]
 pub struct Answer {
     pub code: u16,
     pub steps: usize,

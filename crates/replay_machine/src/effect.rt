@@ -6,7 +6,7 @@ ghost use Rattle.replay_machine.specs.Effect.{effect_of};
 use image_header::instruction::Instruction;
 
 // An instruction with values for its formulas. The word counts from 0, registers from 1. Fields that an operation does not use are ignored.
-#[derive(Drop)]
+#[derive(Clone, Copy)]
 pub struct Effect {
     pub operation: u8,
     pub word: u8,

@@ -11,7 +11,7 @@ use limits::read::nth_byte;
 use tables_columns::combine::combine_parts;
 
 // A formula's value, and the position after it.
-#[derive(Drop)]
+#[derive(Clone, Copy)]
 pub struct Worked {
     pub value: u8,
     pub end: usize,

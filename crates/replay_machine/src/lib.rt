@@ -1,4 +1,5 @@
 // The machine of a replay, on numbers: a trace of steps from the start on, until one is refused, and what is shown of the state reached.
+#![tactic(auto)]
 
 // Formulas over registers, worked out at given values.
 pub mod evaluate;

@@ -7,7 +7,7 @@ use image_header::instruction::Instruction;
 use replay_memory::view::next;
 
 // The values of sixteen registers; register r is entry r - 1.
-#[derive(Drop)]
+#[derive(Clone, Copy)]
 pub struct Registers {
     pub at: [u8; 16],
 }

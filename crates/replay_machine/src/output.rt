@@ -9,7 +9,7 @@ use crate::shown_table::pack;
 use replay_memory::write::Write;
 
 // The answer, and the writes for the table: the first `count` of `writes`.
-#[derive(Drop)]
+#[derive(Clone, Copy)]
 pub struct Shown {
     pub answer: Answer,
     pub count: usize,

@@ -23,7 +23,7 @@ impl Table {
 }
 
 // Why the replay ended, the steps taken and the state reached; whether the table is to be written, and how many words have rows there.
-#[derive(Drop)]
+#[derive(Clone, Copy)]
 pub struct Replayed {
     pub code: u8,
     pub steps: usize,

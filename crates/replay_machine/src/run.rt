@@ -12,7 +12,7 @@ use replay_memory::layout::lay_out;
 use replay_memory::write_table::Places;
 
 // Why the run ended, 0 if the trace did; the steps taken; the state reached.
-#[derive(Drop)]
+#[derive(Clone, Copy)]
 pub struct Run {
     pub code: u8,
     pub steps: usize,
@@ -20,7 +20,7 @@ pub struct Run {
 }
 
 // A run without its writes, which are in a table of bytes.
-#[derive(Drop)]
+#[derive(Clone, Copy)]
 pub struct Reached {
     pub code: u8,
     pub steps: usize,

@@ -8,7 +8,7 @@ use replay_memory::memory::Memory;
 use replay_memory::write::{Write, start_write};
 
 // The first 64 entries; after the last write there are start writes of 0.
-#[derive(Drop)]
+#[derive(Clone, Copy)]
 pub struct Packed {
     pub writes: [Write; 64],
 }

@@ -10,7 +10,7 @@ use replay_memory::memory::{Memory, MemoryShape, write_at};
 use replay_memory::write_table::Places;
 
 // A state as a value.
-#[derive(Drop)]
+#[derive(Clone, Copy)]
 pub struct Machine {
     pub memory: Memory,
     pub registers: Registers,
@@ -18,7 +18,7 @@ pub struct Machine {
 }
 
 // A state without its writes, which are in a table of bytes: what a step passes on by value.
-#[derive(Drop)]
+#[derive(Clone, Copy)]
 pub struct Threads {
     pub shape: MemoryShape,
     pub registers: Registers,

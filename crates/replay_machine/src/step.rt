@@ -17,7 +17,7 @@ use image_index::look_up::body_of;
 use replay_memory::write_table::Places;
 
 // The state after a step, and the code: 0 if it was taken, else why it was refused; then the state is as before.
-#[derive(Drop)]
+#[derive(Clone, Copy)]
 pub struct Taken {
     pub code: u8,
     pub threads: Threads,

@@ -9,23 +9,23 @@ use Rattle.replay_machine.proofs.OutputBranches.{copied, numbers_length}
 use Rattle.replay_machine.proofs.answer.write_numbers.Statement.{statement}
 use Rattle.replay_machine.proofs.answer.write_numbers.Tie as tie
 
-abbrev invariant-loop : tie.invariant-loop
+abbrev invariant-loop : tie.invariant-loop-i
 invariant-loop a room₀ i₀ room i = (i ≤ size) × ((room ≡ take i (numbers_of a) ++ drop i room₀) × (length room ≡ length room₀))
 
-abbrev decreases-loop : tie.decreases-loop
+abbrev decreases-loop : tie.decreases-loop-i
 decreases-loop a room₀ i₀ room i = size - i
 
-loop-again : tie.Need-loop-preserved invariant-loop decreases-loop
+loop-again : tie.Need-loop-i-preserved invariant-loop decreases-loop
 loop-again c =
-    copied size (numbers_of c.before.before.before.before.args.answer) c.before.before.before.before.args.room.now
-    c.before.before.loop.room c.before.before.loop.i c.number_at.result
-    (numbers_length c.before.before.before.before.args.answer) (search tests) (search tests) (search tests) (search tests) (search tests)
+    copied size (numbers_of c.args.answer) c.args.room.now
+    c.loop-i.room c.loop-i.i c.number_at.result
+    (numbers_length c.args.answer) (search tests) (search tests) (search tests) (search tests) (search tests)
 
 returns : tie.Need-returns invariant-loop decreases-loop
 returns c =
-    copy_all size (numbers_of c.before.before.before.args.answer) c.before.before.before.args.room.now c.before.loop.room
-    c.before.loop.i
-    (numbers_length c.before.before.before.args.answer) (search tests) (search tests) (search tests)
+    copy_all size (numbers_of c.args.answer) c.args.room.now c.loop-i.room
+    c.loop-i.i
+    (numbers_length c.args.answer) (search tests) (search tests) (search tests)
 
 pub write_numbers_spec : {M : Type 1} → statement M
 write_numbers_spec =

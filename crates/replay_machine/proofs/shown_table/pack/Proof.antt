@@ -7,10 +7,10 @@ use lib.ListN.{take, length}
 use Rattle.replay_machine.proofs.shown_table.pack.Statement.{statement}
 use Rattle.replay_machine.proofs.shown_table.pack.Tie as tie
 
-abbrev invariant-loop : tie.invariant-loop
+abbrev invariant-loop : tie.invariant-loop-e
 invariant-loop words m n writes₀ e₀ writes e = (e ≤ 64) × ((take e writes ≡ packed_to m words e) × (length writes ≡ 64))
 
-abbrev decreases-loop : tie.decreases-loop
+abbrev decreases-loop : tie.decreases-loop-e
 decreases-loop words m n writes₀ e₀ writes e = 64 - e
 
 pub pack_spec : {M : Type 1} → statement M

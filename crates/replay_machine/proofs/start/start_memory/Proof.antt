@@ -7,10 +7,10 @@ use lib.ListN.{take, length}
 use Rattle.replay_machine.proofs.start.start_memory.Statement.{statement}
 use Rattle.replay_machine.proofs.start.start_memory.Tie as tie
 
-abbrev invariant-loop : tie.invariant-loop
+abbrev invariant-loop : tie.invariant-loop-j
 invariant-loop b view writes₀ j₀ writes j = (j ≤ 72) × ((take j writes ≡ start_writes b j) × (length writes ≡ 72))
 
-abbrev decreases-loop : tie.decreases-loop
+abbrev decreases-loop : tie.decreases-loop-j
 decreases-loop b view writes₀ j₀ writes j = 72 - j
 
 pub start_memory_spec : {M : Type 1} → statement M

@@ -7,10 +7,10 @@ use lib.ListN.{take, length}
 use Rattle.replay_machine.proofs.start.start_registers.Statement.{statement}
 use Rattle.replay_machine.proofs.start.start_registers.Tie as tie
 
-abbrev invariant-loop : tie.invariant-loop
+abbrev invariant-loop : tie.invariant-loop-i
 invariant-loop b range given at₀ i₀ at i = (i ≤ 16) × ((take i at ≡ start_values_to b range given i) × (length at ≡ 16))
 
-abbrev decreases-loop : tie.decreases-loop
+abbrev decreases-loop : tie.decreases-loop-i
 decreases-loop b range given at₀ i₀ at i = 16 - i
 
 pub start_registers_spec : {M : Type 1} → statement M

@@ -8,26 +8,26 @@ use Rattle.replay_machine.proofs.OutputBranches.{laid_none, laid_next, laid_all}
 use Rattle.replay_machine.proofs.table_bytes.write_shown.Statement.{statement}
 use Rattle.replay_machine.proofs.table_bytes.write_shown.Tie as tie
 
-abbrev invariant-loop : tie.invariant-loop
+abbrev invariant-loop : tie.invariant-loop-e
 invariant-loop table₀ s n e₀ table e = (e ≤ n) × ((table ≡ laid (take e s.writes) table₀) × (length table ≡ length table₀))
 
-abbrev decreases-loop : tie.decreases-loop
+abbrev decreases-loop : tie.decreases-loop-e
 decreases-loop table₀ s n e₀ table e = n - e
 
-loop-again : tie.Need-loop-preserved invariant-loop decreases-loop
+loop-again : tie.Need-loop-e-preserved invariant-loop decreases-loop
 loop-again c =
-    laid_next c.before.before.before.before.before.before.before.before.args.t1.writes
-    c.before.before.before.before.before.before.before.before.args.t1.count
-    c.before.before.before.before.before.before.loop.e
-    c.before.before.before.before.before.before.before.before.args.table.now
-    c.before.before.before.before.before.before.loop.table no_write
-    (search tests) (search tests) (search tests) (search tests) (search tests) c.before.before.write-entry.new.1.0 (search tests)
+    laid_next c.args.shown.writes
+    c.args.shown.count
+    c.loop-e.e
+    c.args.table.now
+    c.loop-e.table no_write
+    (search tests) (search tests) (search tests) (search tests) (search tests) c.write_entry.new.out (search tests)
     (search tests)
 
 returns : tie.Need-returns invariant-loop decreases-loop
 returns c =
-    laid_all c.before.before.before.args.t1.writes c.before.loop.e c.before.before.before.args.t1.count
-    c.before.before.before.args.table.now c.before.loop.table
+    laid_all c.args.shown.writes c.loop-e.e c.args.shown.count
+    c.args.table.now c.loop-e.table
     (search tests) (search tests) (search tests)
 
 pub write_shown_spec : {M : Type 1} → statement M
