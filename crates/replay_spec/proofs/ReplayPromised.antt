@@ -20,11 +20,9 @@ use Rattle.image_header.specs.declared.sizes.Sizes.{Sizes}
 use Rattle.image_meaning.specs.Program.{program_of, outline_of}
 use Rattle.image_meaning.proofs.RecordsChecked.{Checks, sound_checks}
 use Rattle.image_meaning.proofs.WellFormedProgram.{range_two}
-use Rattle.verdict_record.specs.Output.{code_for}
 use Rattle.checker_spec.specs.Acceptance.{acceptance}
 use Rattle.checker_spec.specs.declared.acceptance.Acceptance.TheVariants.{Granted, Declined}
 use Rattle.checker_spec.proofs.AcceptedHolds.{granted_holds}
-use Rattle.checker_spec.proofs.AcceptedRuns as Checker
 use Rattle.tables_columns.specs.Column.{column}
 use Rattle.replay_memory.specs.Write.{start_write}
 use Rattle.replay_memory.specs.MemoryStands.{SameWrite, Stands}

@@ -10,7 +10,6 @@ use lib.Dec.{T, eqb, ltb, leb, ltb→lt}
 use lib.ListN.{length-set}
 use borrow.Author.Tests.{lt-ltb, le-ltb, le-leb, eq-eqb, ne_eqb, ltb-true, ltb-false, eqb-true, leb-true, leb-false}
 use Rattle.semantics.specs.Base.{Within, upd}
-use Rattle.semantics.specs.Machine as Logic
 use Rattle.semantics.specs.Names.{only, is_reg}
 use Rattle.semantics.specs.Eval.{test, on_regs}
 use Rattle.semantics.specs.Machine.{State, Program, Mode.store, Mode.swap, Mode.exchange, Mode.fetch_add, Access.none, Access.load, Access.write, Instr, Instr.act, Instr.branch, allowed, exec}
