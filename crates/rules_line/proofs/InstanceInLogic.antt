@@ -27,7 +27,6 @@ use Rattle.image_meaning.specs.Program.{program_of}
 use Rattle.logic.specs.RuleNumbers.{rule_of}
 use Rattle.image_access.specs.AccessTrees.{acting_at}
 use Rattle.image_access.specs.declared.line.Line.{Line}
-use Rattle.image_access.specs.declared.acting_instruction.Acting.{Acting}
 use Rattle.limits.proofs.PassedTests.{and_true, within_true}
 use Rattle.image_meaning.proofs.RecordsChecked.{Checks}
 use Rattle.image_meaning.proofs.WellFormedProgram.{range_two}

@@ -8,7 +8,7 @@ use limits::Limits;
 use rules_table::rule::Form;
 
 // What a line concludes: its form, of a triple the thread and point, the positions of the left and the right formula.
-#[derive(Drop)]
+#[derive(Clone, Copy)]
 pub struct Conclusion {
     pub form: u8,
     pub thread: usize,
@@ -64,7 +64,7 @@ pub fn match_conclusion(
 }
 
 // What a line's premises conclude; past `count` there is NO_CONCLUSION.
-#[derive(Drop)]
+#[derive(Clone, Copy)]
 pub struct Premises {
     pub count: u8,
     pub conclusions: [Conclusion; Limits::PREMISES],

@@ -1,4 +1,5 @@
 // Whether a line of a certificate is an instance of its rule: its conclusion, its premises and the side condition, against the rule table.
+#![tactic(auto)]
 
 // What lines and their premises conclude, matched against the templates of rules.
 pub mod conclusion;

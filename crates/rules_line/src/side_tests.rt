@@ -12,7 +12,7 @@ use image_header::instruction::Instruction;
 use limits::Limits;
 
 // A formula in the image: where it begins, and the nesting that is left there.
-#[derive(Drop)]
+#[derive(Clone, Copy)]
 pub struct Position {
     pub at: usize,
     pub left: usize,
