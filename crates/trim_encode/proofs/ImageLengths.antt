@@ -14,12 +14,11 @@ use Rattle.image_frames.specs.Records.{bodies}
 use Rattle.image_frames.specs.declared.fault.Fault.TheVariants.{Body, Size}
 use Rattle.image_frames.specs.declared.fault.Checked.TheVariants.{Passed}
 use Rattle.image_frames.specs.declared.walk.Framing.{Framing}
-use Rattle.image_frames.specs.declared.walk.Framing.TheVariants as Framing
 use Rattle.image_header.specs.declared.sizes.Sizes.{Sizes}
 use Rattle.image_bodies.specs.Line.{line_size, line_numbers}
 use Rattle.image_bodies.specs.LineBody.{line}
 use Rattle.image.specs.Decode.{record_count, behind_frames, decoded}
-use Rattle.image.specs.declared.decode.Decoded.TheVariants.{Refused, Sound}
+use Rattle.image.specs.declared.decode.Decoded.TheVariants.{Sound}
 use Rattle.image_meaning.specs.Certificate.{line_body}
 use Rattle.image_meaning.proofs.PassedChecks.{unless_passed, also_passed}
 use Rattle.image_meaning.proofs.RecordsChecked.{sound_checks, line_passed}

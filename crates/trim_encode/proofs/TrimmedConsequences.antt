@@ -5,9 +5,7 @@ use mathlib.Core.List.{List}
 use Prim.Native.Nat.{ℕ, ◌≤◌, ◌<◌}
 use lib.ListN.{length}
 use Rattle.semantics.specs.Base.{Within}
-use Rattle.semantics.specs.Machine.{Program, Instr}
-use Rattle.semantics.specs.Formula.{Assertion}
-use Rattle.logic.specs.Claims.{Claim}
+use Rattle.semantics.specs.Machine.{Instr}
 use Rattle.logic_outline.specs.Verdict.{Image}
 use Rattle.image_frames.specs.Records.{bodies}
 use Rattle.image_header.specs.declared.sizes.Sizes.{Sizes}

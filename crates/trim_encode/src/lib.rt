@@ -1,4 +1,5 @@
 // Trims an accepted image into a buffer: marks its live lines and formulas, renumbers them and encodes what is left.
+#![tactic(auto)]
 
 // Marks by number, the new numbers that they give, and the length of the trimmed image.
 pub mod marks;

@@ -7,10 +7,10 @@ use Rattle.limits.proofs.BranchTests.{tests}
 use Rattle.trim_encode.proofs.bytes.put_bytes.Statement.{statement}
 use Rattle.trim_encode.proofs.bytes.put_bytes.Tie as tie
 
-abbrev invariant-loop : tie.invariant-loop
+abbrev invariant-loop : tie.invariant-loop-i
 invariant-loop b out₀ at i₀ out i = (i ≤ length b) × ((out ≡ overwritten out₀ at (take i b)) × (length out ≡ length out₀))
 
-abbrev decreases-loop : tie.decreases-loop
+abbrev decreases-loop : tie.decreases-loop-i
 decreases-loop b out₀ at i₀ out i = length b - i
 
 pub put_bytes_spec : {M : Type 1} → statement M

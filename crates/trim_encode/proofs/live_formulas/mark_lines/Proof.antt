@@ -9,11 +9,11 @@ use Rattle.limits.proofs.BranchTests.{tests}
 use Rattle.trim_encode.proofs.live_formulas.mark_lines.Statement.{statement}
 use Rattle.trim_encode.proofs.live_formulas.mark_lines.Tie as tie
 
-abbrev invariant-loop : tie.invariant-loop
+abbrev invariant-loop : tie.invariant-loop-n
 invariant-loop s ix z k m₀ lines n₀ m n =
     (n ≤ z.lines) × ((marked_by m₀ (marked_formulas z (bodies s) k 0) ≡ marked_by m (marked_formulas z (bodies s) k n)) × (length m ≡ length m₀))
 
-abbrev decreases-loop : tie.decreases-loop
+abbrev decreases-loop : tie.decreases-loop-n
 decreases-loop s ix z k m₀ lines n₀ m n = z.lines - n
 
 pub mark_lines_spec : {M : Type 1} → statement M

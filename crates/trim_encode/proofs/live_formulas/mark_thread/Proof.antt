@@ -10,14 +10,14 @@ use Rattle.limits.proofs.BranchTests.{tests}
 use Rattle.trim_encode.proofs.live_formulas.mark_thread.Statement.{statement}
 use Rattle.trim_encode.proofs.live_formulas.mark_thread.Tie as tie
 
-abbrev invariant-loop : tie.invariant-loop
+abbrev invariant-loop : tie.invariant-loop-p
 invariant-loop b m₀ last at₀ p₀ m at p =
     (last < 256)
     ×
     ((p ≤ last)
     × ((at ≡ begins (drop 1 b) p) × ((marked_by m₀ (body_formulas b 0) ≡ marked_by m (body_formulas b p)) × (length m ≡ length m₀))))
 
-abbrev decreases-loop : tie.decreases-loop
+abbrev decreases-loop : tie.decreases-loop-p
 decreases-loop b m₀ last at₀ p₀ m at p = last - p
 
 pub mark_thread_spec : {M : Type 1} → statement M

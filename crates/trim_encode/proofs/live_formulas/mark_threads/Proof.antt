@@ -9,11 +9,11 @@ use Rattle.limits.proofs.BranchTests.{tests}
 use Rattle.trim_encode.proofs.live_formulas.mark_threads.Statement.{statement}
 use Rattle.trim_encode.proofs.live_formulas.mark_threads.Tie as tie
 
-abbrev invariant-loop : tie.invariant-loop
+abbrev invariant-loop : tie.invariant-loop-t
 invariant-loop s ix z m₀ threads t₀ m t =
     (t ≤ z.threads) × ((marked_by m₀ (thread_formulas z (bodies s) 0) ≡ marked_by m (thread_formulas z (bodies s) t)) × (length m ≡ length m₀))
 
-abbrev decreases-loop : tie.decreases-loop
+abbrev decreases-loop : tie.decreases-loop-t
 decreases-loop s ix z m₀ threads t₀ m t = z.threads - t
 
 pub mark_threads_spec : {M : Type 1} → statement M

@@ -9,11 +9,11 @@ use Rattle.limits.proofs.BranchTests.{tests}
 use Rattle.trim_encode.proofs.live_lines.mark_claims.Statement.{statement}
 use Rattle.trim_encode.proofs.live_lines.mark_claims.Tie as tie
 
-abbrev invariant-loop : tie.invariant-loop
+abbrev invariant-loop : tie.invariant-loop-i
 invariant-loop s ix z m₀ claims i₀ m i =
     (i ≤ z.claims) × ((marked_by m₀ (claim_lines z (bodies s)) ≡ marked_by m (drop i (claim_lines z (bodies s)))) × (length m ≡ length m₀))
 
-abbrev decreases-loop : tie.decreases-loop
+abbrev decreases-loop : tie.decreases-loop-i
 decreases-loop s ix z m₀ claims i₀ m i = z.claims - i
 
 pub mark_claims_spec : {M : Type 1} → statement M

@@ -9,12 +9,12 @@ use Rattle.limits.proofs.BranchTests.{tests}
 use Rattle.trim_encode.proofs.live_lines.mark_lines.Statement.{statement}
 use Rattle.trim_encode.proofs.live_lines.mark_lines.Tie as tie
 
-abbrev invariant-loop : tie.invariant-loop
+abbrev invariant-loop : tie.invariant-loop-n
 invariant-loop s ix z m₀ n₀ m n =
     (n ≤ z.lines) × ((kept_to (document_of z (bodies s)).lines z.lines m₀ ≡ kept_to (document_of z (bodies s)).lines n m)
     × (length m ≡ length m₀))
 
-abbrev decreases-loop : tie.decreases-loop
+abbrev decreases-loop : tie.decreases-loop-n
 decreases-loop s ix z m₀ n₀ m n = n
 
 pub mark_lines_spec : {M : Type 1} → statement M

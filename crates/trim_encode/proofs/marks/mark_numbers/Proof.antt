@@ -8,10 +8,10 @@ use Rattle.limits.proofs.BranchTests.{tests}
 use Rattle.trim_encode.proofs.marks.mark_numbers.Statement.{statement}
 use Rattle.trim_encode.proofs.marks.mark_numbers.Tie as tie
 
-abbrev invariant-loop : tie.invariant-loop
+abbrev invariant-loop : tie.invariant-loop-i
 invariant-loop b n m₀ i₀ m i = (i ≤ n) × ((marked_by m₀ (numbers n b) ≡ marked_by m (drop i (numbers n b))) × (length m ≡ length m₀))
 
-abbrev decreases-loop : tie.decreases-loop
+abbrev decreases-loop : tie.decreases-loop-i
 decreases-loop b n m₀ i₀ m i = n - i
 
 pub mark_numbers_spec : {M : Type 1} → statement M

@@ -6,10 +6,10 @@ use Rattle.limits.proofs.BranchTests.{tests}
 use Rattle.trim_encode.proofs.numbering.fill_numbers.Statement.{statement}
 use Rattle.trim_encode.proofs.numbering.fill_numbers.Tie as tie
 
-abbrev invariant-loop : tie.invariant-loop
+abbrev invariant-loop : tie.invariant-loop-i
 invariant-loop m table₀ n₀ i₀ table n i = (i ≤ length m) × (Filled m table i n × (length table₀ ≡ length m))
 
-abbrev decreases-loop : tie.decreases-loop
+abbrev decreases-loop : tie.decreases-loop-i
 decreases-loop m table₀ n₀ i₀ table n i = length m - i
 
 pub fill_numbers_spec : {M : Type 1} → statement M

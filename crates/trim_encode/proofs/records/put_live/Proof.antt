@@ -7,10 +7,10 @@ use Rattle.limits.proofs.BranchTests.{tests}
 use Rattle.trim_encode.proofs.records.put_live.Statement.{statement}
 use Rattle.trim_encode.proofs.records.put_live.Tie as tie
 
-abbrev invariant-loop : tie.invariant-loop
+abbrev invariant-loop : tie.invariant-loop-i
 invariant-loop s ix f g m kind n c out₀ at next₀ i₀ out next i = Partly (live_piece f g (bodies s) m kind n) c out₀ at out next i
 
-abbrev decreases-loop : tie.decreases-loop
+abbrev decreases-loop : tie.decreases-loop-i
 decreases-loop s ix f g m kind n c out₀ at next₀ i₀ out next i = c - i
 
 pub put_live_spec : {M : Type 1} → statement M

@@ -7,10 +7,10 @@ use Rattle.limits.proofs.BranchTests.{tests}
 use Rattle.trim_encode.proofs.records.put_records.Statement.{statement}
 use Rattle.trim_encode.proofs.records.put_records.Tie as tie
 
-abbrev invariant-loop : tie.invariant-loop
+abbrev invariant-loop : tie.invariant-loop-i
 invariant-loop s ix f g kind n c out₀ at next₀ i₀ out next i = Partly (record_piece f g (bodies s) kind n) c out₀ at out next i
 
-abbrev decreases-loop : tie.decreases-loop
+abbrev decreases-loop : tie.decreases-loop-i
 decreases-loop s ix f g kind n c out₀ at next₀ i₀ out next i = c - i
 
 pub put_records_spec : {M : Type 1} → statement M

@@ -6,10 +6,10 @@ use Rattle.limits.proofs.BranchTests.{tests}
 use Rattle.trim_encode.proofs.renumbered.put_numbers.Statement.{statement}
 use Rattle.trim_encode.proofs.renumbered.put_numbers.Tie as tie
 
-abbrev invariant-loop : tie.invariant-loop
+abbrev invariant-loop : tie.invariant-loop-i
 invariant-loop t b n out₀ at next₀ i₀ out next i = Partly (number_piece t b n) n out₀ at out next i
 
-abbrev decreases-loop : tie.decreases-loop
+abbrev decreases-loop : tie.decreases-loop-i
 decreases-loop t b n out₀ at next₀ i₀ out next i = n - i
 
 pub put_numbers_spec : {M : Type 1} → statement M

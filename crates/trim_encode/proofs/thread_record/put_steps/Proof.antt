@@ -6,10 +6,10 @@ use Rattle.limits.proofs.BranchTests.{tests}
 use Rattle.trim_encode.proofs.thread_record.put_steps.Statement.{statement}
 use Rattle.trim_encode.proofs.thread_record.put_steps.Tie as tie
 
-abbrev invariant-loop : tie.invariant-loop
+abbrev invariant-loop : tie.invariant-loop-i
 invariant-loop f b n out₀ at next₀ i₀ out next i = Partly (instruction_piece f b) n out₀ at out next i
 
-abbrev decreases-loop : tie.decreases-loop
+abbrev decreases-loop : tie.decreases-loop-i
 decreases-loop f b n out₀ at next₀ i₀ out next i = n - i
 
 pub put_steps_spec : {M : Type 1} → statement M

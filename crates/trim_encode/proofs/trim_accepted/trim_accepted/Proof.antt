@@ -23,7 +23,7 @@ trim_accepted_spec =
       (search tests, search tests),
       (
         (search tests, search tests),
-        room _ _ c.before.before.before.before.trimmed-length.result _ (search tests) (search tests),
+        room _ _ c.before.before.before.before.trimmed_length-length.result _ (search tests) (search tests),
       ),
     ))
     (λ c. search rules)

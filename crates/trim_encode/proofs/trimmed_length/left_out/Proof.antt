@@ -8,11 +8,11 @@ use Rattle.limits.proofs.BranchTests.{tests}
 use Rattle.trim_encode.proofs.trimmed_length.left_out.Statement.{statement}
 use Rattle.trim_encode.proofs.trimmed_length.left_out.Tie as tie
 
-abbrev invariant-loop : tie.invariant-loop
+abbrev invariant-loop : tie.invariant-loop-i
 invariant-loop s ix from count m r₀ i₀ r i =
     (i ≤ count) × ((r ≤ (Limits.image_bytes + 4) * i) × (left_behind (bodies s) from count m 0 ≡ r + left_behind (bodies s) from count m i))
 
-abbrev decreases-loop : tie.decreases-loop
+abbrev decreases-loop : tie.decreases-loop-i
 decreases-loop s ix from count m r₀ i₀ r i = count - i
 
 pub left_out_spec : {M : Type 1} → statement M
