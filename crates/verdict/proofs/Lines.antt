@@ -1,16 +1,14 @@
 -- The ways to the line that is written, one law for each.
 use mathlib.Core.Path.{◌≡◌}
 use mathlib.Core.List.{List, []}
-use Prim.Native.Nat.{ℕ, ◌≤◌}
-use native.Mathlib.Omega.{arith}
-use lib.ListN.{length, take, drop}
+use Prim.Native.Nat.{ℕ}
+use lib.ListN.{take, drop}
 use Rattle.std.specs.declared.io.Error.{Error}
 use Rattle.limits.specs.Limits as Limits
 use Rattle.input.specs.declared.Filled.{Filled}
 use Rattle.input.specs.declared.Filled.TheVariants.{Full, Ended, Failed}
 use Rattle.verdict_record.specs.Fields.{fields_of}
-use Rattle.verdict_record.specs.Text.{room, text_of}
-use Rattle.verdict_record.specs.declared.text.Text.{Text}
+use Rattle.verdict_record.specs.Text.{text_of}
 use Rattle.verdict_record.specs.declared.verdict.Fields.{Fields}
 use Rattle.verdict_record.specs.declared.verdict.Verdict.{Verdict}
 use Rattle.checker_spec.specs.ImageVerdict.{verdict_within}
@@ -35,7 +33,3 @@ unfolding line_for
 line_failed how s x e = rw e
 
 pub ruleset line_branches = (line_judged, line_full, line_ended, line_failed)
-
--- a text is a part of its bytes
-pub text_within : (t : Text) → t.len ≤ room → length t.bytes ≡ room → t.len ≤ length t.bytes
-text_within t h e = omega arith
