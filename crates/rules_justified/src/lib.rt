@@ -1,4 +1,5 @@
 // Which lines of a certificate are justified: one pass over the lines, which marks them.
+#![tactic(auto)]
 
 // A mark for each line.
 pub mod marks;

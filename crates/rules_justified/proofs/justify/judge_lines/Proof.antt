@@ -10,10 +10,10 @@ use lib.ListN.{length}
 use Rattle.rules_justified.proofs.justify.judge_lines.Statement.{statement}
 use Rattle.rules_justified.proofs.justify.judge_lines.Tie as tie
 
-abbrev invariant-loop : tie.invariant-loop
+abbrev invariant-loop : tie.invariant-loop-n
 invariant-loop s ix z bytes last on₀ n₀ on n = (bytes ≡ templates) × ((n ≤ last) × ((length on ≡ lines) × (as_marks on ≡ marks_to s z n)))
 
-abbrev decreases-loop : tie.decreases-loop
+abbrev decreases-loop : tie.decreases-loop-n
 decreases-loop s ix z bytes last on₀ n₀ on n = last - n
 
 pub judge_lines_spec : {M : Type 1} → statement M

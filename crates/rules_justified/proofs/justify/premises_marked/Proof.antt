@@ -8,10 +8,10 @@ use Prim.Native.Nat.{◌≤◌, ◌-◌}
 use Rattle.rules_justified.proofs.justify.premises_marked.Statement.{statement}
 use Rattle.rules_justified.proofs.justify.premises_marked.Tie as tie
 
-abbrev invariant-loop : tie.invariant-loop
+abbrev invariant-loop : tie.invariant-loop-j
 invariant-loop s ix z n count m j₀ j = (true ≡ premises_marked s z n (as_marks m) j) × (j ≤ count)
 
-abbrev decreases-loop : tie.decreases-loop
+abbrev decreases-loop : tie.decreases-loop-j
 decreases-loop s ix z n count m j₀ j = count - j
 
 pub premises_marked_spec : {M : Type 1} → statement M
