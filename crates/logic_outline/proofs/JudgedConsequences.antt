@@ -5,10 +5,30 @@ use Prim.Native.Nat.{ℕ, ◌<◌}
 use native.Mathlib.Omega.{arith}
 use Rattle.logic.specs.Obligations.{Obligation}
 use Rattle.logic_outline.specs.Lines.{Justified}
-use Rattle.logic_outline.specs.Verdict.{Image, accepted, unmet, denied, asks}
+use Rattle.logic_outline.specs.Verdict.{Image, accepted, unmet, denied, asks, forbids}
 use Rattle.logic_outline.specs.Judged.{total, numbered, Meets, EachMet, Lacks, no_line, other_statement, not_justified, Sustains, EachSustained, Judged, each_met, first_unmet, first-denied}
 
 module _ (D : Image) where
+  -- an obligation that is met names a line; the line states what is wanted and is justified
+  pub met_line : (k : ℕ) → Meets D k → D.named k ≢ 0
+  met_line k h = h.there
+
+  pub met_states : (k : ℕ) → Meets D k → asks D (numbered D k) ≡ (D.certificate.line (D.named k)).says
+  met_states k h = h.says
+
+  pub met_justified : (k : ℕ) → Meets D k → Justified D.program D.certificate (D.named k)
+  met_justified k h = h.just
+
+  -- a claim that is sustained names a line; the line concludes false from both assertions and is justified
+  pub sustained_line : (i : ℕ) → Sustains D i → D.claims.line i ≢ 0
+  sustained_line i h = h.there
+
+  pub sustained_states : (i : ℕ) → Sustains D i → forbids D i ≡ (D.certificate.line (D.claims.line i)).says
+  sustained_states i h = h.says
+
+  pub sustained_justified : (i : ℕ) → Sustains D i → Justified D.program D.certificate (D.claims.line i)
+  sustained_justified i h = h.just
+
   -- accepted: all obligations are met, all are counted, all claims are sustained
   pub accepted_each : (n : ℕ) → Judged D (accepted n) → (n ≡ total D) × (EachMet D × EachSustained D)
   accepted_each n (each_met h g) = (refl, (h, g))
