@@ -38,6 +38,34 @@ made f ps cs = record {
 abbrev doing : Listed → Instruction → Source
 doing f i = made f (record { assertion = 1; instruction = i } ∷ []) []
 
+-- a header with this range, this start value of its word and this owner of its register; one thread
+abbrev headed : ℕ → ℕ → ℕ → Source
+headed values start owner = record {
+  range = values;
+  start_values = start ∷ [];
+  registers = record { owner = owner; cleared = true } ∷ [];
+  formulas = always ∷ [];
+  threads = record { points = []; last = 1 } ∷ [];
+  lines = [];
+  named = [];
+  claims = [];
+}
+
+-- "the range, 2 to 16 values"
+one_value : InRange (headed 1 0 1) → ⊥
+one_value h = let q = h.fewest in omega (arith, q)
+
+seventeen_values : InRange (headed 17 0 1) → ⊥
+seventeen_values h = let q = h.most in omega (arith, q)
+
+-- "Constants and start values must be below it"
+start_value : InRange (headed 4 4 1) → ⊥
+start_value h = let q = h.start-values.0 in omega (arith, q)
+
+-- a register of thread 2, where there is one thread
+owner_absent : InRange (headed 4 0 2) → ⊥
+owner_absent h = let q = h.owners.0.1 in omega (arith, q)
+
 constant : InRange (made (sorted Sort.value (Formula.const 4)) [] []) → ⊥
 unfolding nodes
 constant h = let q = h.constants.1.0.0 refl in omega (arith, q)
