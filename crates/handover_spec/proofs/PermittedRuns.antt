@@ -17,7 +17,6 @@ use Rattle.image_header.specs.declared.sizes.Sizes.{Sizes}
 use Rattle.image_header.specs.Header.{word_count, value_range}
 use Rattle.image.specs.Decode.{decoded, sizes_of}
 use Rattle.image.specs.declared.decode.Decoded.{Decoded}
-use Rattle.image.specs.declared.decode.Decoded.TheVariants as Decoded
 use Rattle.logic_outline.proofs.Marks.{justified_derived}
 use Rattle.logic_outline.specs.Verdict.{Image, Finding, accepted, unmet, denied, finding, asks, Bears, AllMet, Admitted}
 use Rattle.logic_outline.proofs.Accept.{judge_met, accepted_all}

@@ -1,6 +1,5 @@
 -- The claim about every run across a handover is false of a wrong outline, shown by a run.
 use mathlib.Core.List.{List, [], ◌∷◌}
-use Prim.Native.Nat.{ℕ}
 use native.Mathlib.Omega.{arith}
 use Rattle.semantics.specs.Base.{upd}
 use Rattle.semantics.specs.Formula.{Formula, Formula.const, Formula.reg, Formula.equal, Formula.holds}

@@ -1,4 +1,5 @@
 // What a handover to new code is (Change 12), and the tests of its table for two accepted images.
+#![tactic(auto)]
 
 // The table of a handover: an entry for each old point, and whether each is in range.
 pub mod entries;

@@ -7,10 +7,10 @@ use Rattle.limits.proofs.BranchTests.{tests}
 use Rattle.handover_spec.proofs.entries.entries_fit.Statement.{statement}
 use Rattle.handover_spec.proofs.entries.entries_fit.Tie as tie
 
-abbrev invariant-loop : tie.invariant-loop
+abbrev invariant-loop : tie.invariant-loop-k
 invariant-loop table last lines from n k₀ k = (k ≤ n) × (entries_fit table last lines from k ≡ true)
 
-abbrev decreases-loop : tie.decreases-loop
+abbrev decreases-loop : tie.decreases-loop-k
 decreases-loop table last lines from n k₀ k = n - k
 
 pub entries_fit_spec : {M : Type 1} → statement M

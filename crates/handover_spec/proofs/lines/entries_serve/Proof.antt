@@ -10,10 +10,10 @@ use Rattle.limits.proofs.BranchTests.{tests}
 use Rattle.handover_spec.proofs.lines.entries_serve.Statement.{statement}
 use Rattle.handover_spec.proofs.lines.entries_serve.Tie as tie
 
-abbrev invariant-loop : tie.invariant-loop
+abbrev invariant-loop : tie.invariant-loop-k
 invariant-loop old ox z c new nx y d m table t from n k₀ k = (k ≤ n) × (entries_serve old z new y (as_marks m) table t from k ≡ true)
 
-abbrev decreases-loop : tie.decreases-loop
+abbrev decreases-loop : tie.decreases-loop-k
 decreases-loop old ox z c new nx y d m table t from n k₀ k = n - k
 
 pub entries_serve_spec : {M : Type 1} → statement M

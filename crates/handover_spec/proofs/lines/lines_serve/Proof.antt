@@ -10,11 +10,11 @@ use borrow.Author.Rules.{rules}
 use Rattle.handover_spec.proofs.lines.lines_serve.Statement.{statement}
 use Rattle.handover_spec.proofs.lines.lines_serve.Tie as tie
 
-abbrev invariant-loop : tie.invariant-loop
+abbrev invariant-loop : tie.invariant-loop-t
 invariant-loop old ox z c new nx y d m table threads t₀ t =
     (threads ≡ z.threads) × ((t ≤ threads) × (threads_serve old z new y (as_marks m) table t ≡ true))
 
-abbrev decreases-loop : tie.decreases-loop
+abbrev decreases-loop : tie.decreases-loop-t
 decreases-loop old ox z c new nx y d m table threads t₀ t = threads - t
 
 pub lines_serve_spec : {M : Type 1} → statement M

@@ -7,10 +7,10 @@ use Rattle.limits.proofs.BranchTests.{tests}
 use Rattle.handover_spec.proofs.same_bytes.same_bytes.Statement.{statement}
 use Rattle.handover_spec.proofs.same_bytes.same_bytes.Tie as tie
 
-abbrev invariant-loop : tie.invariant-loop
+abbrev invariant-loop : tie.invariant-loop-i
 invariant-loop a b i₀ i = (i ≤ length a) × ((length a ≡ length b) × ((j : ℕ) → j < i → get_or a j 0 ≡ get_or b j 0))
 
-abbrev decreases-loop : tie.decreases-loop
+abbrev decreases-loop : tie.decreases-loop-i
 decreases-loop a b i₀ i = length a - i
 
 pub same_bytes_spec : {M : Type 1} → statement M

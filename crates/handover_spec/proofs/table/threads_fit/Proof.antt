@@ -11,11 +11,11 @@ use Rattle.limits.proofs.BranchTests.{tests}
 use Rattle.handover_spec.proofs.table.threads_fit.Statement.{statement}
 use Rattle.handover_spec.proofs.table.threads_fit.Tie as tie
 
-abbrev invariant-loop : tie.invariant-loop
+abbrev invariant-loop : tie.invariant-loop-t
 invariant-loop old ox z c new nx y table threads t₀ t =
     (threads ≡ z.threads) × ((t ≤ threads) × (threads_fit (image_of z (bodies old)) (image_of y (bodies new)) table t ≡ true))
 
-abbrev decreases-loop : tie.decreases-loop
+abbrev decreases-loop : tie.decreases-loop-t
 decreases-loop old ox z c new nx y table threads t₀ t = threads - t
 
 pub threads_fit_spec : {M : Type 1} → statement M
