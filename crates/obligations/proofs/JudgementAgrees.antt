@@ -23,7 +23,6 @@ use Rattle.image_meaning.proofs.LinesAdmitted.{named_there, claim_fine}
 use Rattle.rules_justified.specs.Marks.{is_marked}
 use Rattle.rules_justified.specs.declared.marks.Marks.{Marks}
 use Rattle.verdict_record.specs.declared.obligation.Obligation.{Obligation}
-use Rattle.obligations.specs.declared.judgement.Judgement.{Judgement}
 use Rattle.obligations.specs.declared.judgement.Judgement.TheVariants.{Met, Failed}
 use Rattle.verdict_record.specs.ObligationPlace.{obligation}
 use Rattle.obligations.specs.Goal.{goal_claim}

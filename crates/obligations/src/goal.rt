@@ -19,7 +19,7 @@ use rules_table::rule::Form;
 use verdict_record::obligation::Obligation;
 
 // The form of the line, of a triple the thread and point, where the template begins in GOALS, and what fills its holes.
-#[derive(Drop)]
+#[derive(Clone, Copy)]
 pub struct Goal {
     pub form: u8,
     pub thread: usize,

@@ -13,7 +13,7 @@ use image_header::sizes::Sizes;
 use verdict_record::obligation::Obligation;
 
 // How many obligations are met; or the first that is not, its code and line, and how many are met before it.
-#[derive(Drop)]
+#[derive(Clone, Copy)]
 pub enum Judgement {
     Met(usize),
     Failed {

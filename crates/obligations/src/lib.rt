@@ -1,4 +1,5 @@
 // The obligations and claims of a well-formed image, each judged against the line that it names.
+#![tactic(auto)]
 
 // What an obligation or a claim wants of a line: its goal, a template with every hole filled.
 pub mod goal;

@@ -6,10 +6,10 @@ use Rattle.limits.proofs.BranchTests.{tests}
 use Rattle.obligations.proofs.claims.denied_of.Statement.{statement}
 use Rattle.obligations.proofs.claims.denied_of.Tie as tie
 
-abbrev invariant-loop : tie.invariant-loop
+abbrev invariant-loop : tie.invariant-loop-i
 invariant-loop s ix z y m claims i₀ i = (claims ≡ z.claims) × ((claims < 65536) × ((i ≤ claims) × Borne s z (as_marks m) i))
 
-abbrev decreases-loop : tie.decreases-loop
+abbrev decreases-loop : tie.decreases-loop-i
 decreases-loop s ix z y m claims i₀ i = claims - i
 
 pub denied_of_spec : {M : Type 1} → statement M

@@ -7,11 +7,11 @@ use Rattle.limits.proofs.BranchTests.{tests}
 use Rattle.obligations.proofs.interference.judge_action.Statement.{statement}
 use Rattle.obligations.proofs.interference.judge_action.Tie as tie
 
-abbrev invariant-loop : tie.invariant-loop
+abbrev invariant-loop : tie.invariant-loop-u
 invariant-loop s ix z y m t k threads q₀ u₀ q u = (threads ≡ z.threads)
     × ((threads < 256) × ((u ≤ threads) × (q ≡ assertions_to s z (as_marks m) t k u q₀)))
 
-abbrev decreases-loop : tie.decreases-loop
+abbrev decreases-loop : tie.decreases-loop-u
 decreases-loop s ix z y m t k threads q₀ u₀ q u = threads - u
 
 pub judge_action_spec : {M : Type 1} → statement M

@@ -10,11 +10,11 @@ use Rattle.limits.proofs.BranchTests.{tests}
 use Rattle.obligations.proofs.interference.judge_asserting.Statement.{statement}
 use Rattle.obligations.proofs.interference.judge_asserting.Tie as tie
 
-abbrev invariant-loop : tie.invariant-loop
+abbrev invariant-loop : tie.invariant-loop-j
 invariant-loop s ix z y m t k u last q₀ j₀ q j = (last ≡ last_point (thread_body z (bodies s) u))
     × ((last < 256) × ((j ≤ last + 1) × (q ≡ asserted_to s z (as_marks m) t k u j q₀)))
 
-abbrev decreases-loop : tie.decreases-loop
+abbrev decreases-loop : tie.decreases-loop-j
 decreases-loop s ix z y m t k u last q₀ j₀ q j = last + 1 - j
 
 pub judge_asserting_spec : {M : Type 1} → statement M

@@ -7,11 +7,11 @@ use Rattle.limits.proofs.BranchTests.{tests}
 use Rattle.obligations.proofs.interference.judge_interferences.Statement.{statement}
 use Rattle.obligations.proofs.interference.judge_interferences.Tie as tie
 
-abbrev invariant-loop : tie.invariant-loop
+abbrev invariant-loop : tie.invariant-loop-t
 invariant-loop s ix z y m threads q₀ t₀ q t = (threads ≡ z.threads)
     × ((threads < 256) × ((t ≤ threads) × (q ≡ interferences_to s z (as_marks m) t q₀)))
 
-abbrev decreases-loop : tie.decreases-loop
+abbrev decreases-loop : tie.decreases-loop-t
 decreases-loop s ix z y m threads q₀ t₀ q t = threads - t
 
 pub judge_interferences_spec : {M : Type 1} → statement M

@@ -7,10 +7,10 @@ use Rattle.limits.proofs.BranchTests.{tests}
 use Rattle.obligations.proofs.own_steps.judge_steps.Statement.{statement}
 use Rattle.obligations.proofs.own_steps.judge_steps.Tie as tie
 
-abbrev invariant-loop : tie.invariant-loop
+abbrev invariant-loop : tie.invariant-loop-t
 invariant-loop s ix z y m threads q₀ t₀ q t = (threads ≡ z.threads) × ((threads < 256) × ((t ≤ threads) × (q ≡ steps_to s z (as_marks m) t q₀)))
 
-abbrev decreases-loop : tie.decreases-loop
+abbrev decreases-loop : tie.decreases-loop-t
 decreases-loop s ix z y m threads q₀ t₀ q t = threads - t
 
 pub judge_steps_spec : {M : Type 1} → statement M

@@ -10,11 +10,11 @@ use Rattle.limits.proofs.BranchTests.{tests}
 use Rattle.obligations.proofs.own_steps.judge_thread.Statement.{statement}
 use Rattle.obligations.proofs.own_steps.judge_thread.Tie as tie
 
-abbrev invariant-loop : tie.invariant-loop
+abbrev invariant-loop : tie.invariant-loop-k
 invariant-loop s ix z y m t last q₀ k₀ q k = (last ≡ last_point (thread_body z (bodies s) t))
     × ((last < 256) × ((k ≤ last) × (q ≡ own_to s z (as_marks m) t k q₀)))
 
-abbrev decreases-loop : tie.decreases-loop
+abbrev decreases-loop : tie.decreases-loop-k
 decreases-loop s ix z y m t last q₀ k₀ q k = last - k
 
 pub judge_thread_spec : {M : Type 1} → statement M
