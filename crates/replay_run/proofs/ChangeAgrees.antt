@@ -1,29 +1,28 @@
 -- What a step does from the write that it picks is what it does to the memory: sizes and views are the memory's, and the first entries of
 -- the table are, after the insertion.
-use Prim.Native.Nat.{ℕ, suc, ◌+◌, ◌%◌, ◌≤◌, ◌<◌}
+use Prim.Native.Nat.{ℕ, suc, ◌%◌, ◌≤◌, ◌<◌}
 use mathlib.Core.Path.{◌≡◌, refl, ap, sym, ◌∙◌, subst}
 use mathlib.Core.Bool.{Bool, true, false, not, cond, true≢false}
 use mathlib.Core.List.{List}
 use native.Mathlib.Omega.{arith}
 use native.Mathlib.Nat.{mod-eq_of_lt}
-use lib.Dec.{eqb, ltb, leb}
+use lib.Dec.{eqb, ltb}
 use lib.ListN.{length, get_or, length-set}
 use borrow.Author.Tests.{eqb-true, ltb-true}
 use Rattle.logic.specs.Opcode as Opcode
 use Rattle.tables_columns.specs.Combine.{sum_of}
-use Rattle.replay_memory.specs.View.{position_in}
-use Rattle.replay_memory.specs.Write.{no_write, start_write, covered_write}
+use Rattle.replay_memory.specs.Write.{no_write, covered_write}
 use Rattle.replay_memory.specs.Memory.{first, index_of, write_at, size_at, view_of, with_view, covering, seen_by, with_seen}
 use Rattle.replay_memory.specs.Insert.{grown, inserted}
 use Rattle.replay_memory.specs.Access.{read_from, read_view, loaded, put, stored, swap_view, swap_from, swapped}
 use Rattle.replay_memory.specs.declared.write.Write.{Write}
 use Rattle.replay_memory.specs.declared.memory.Memory.{Memory}
 use Rattle.replay_memory.specs.declared.memory.MemoryShape.{MemoryShape}
-use Rattle.replay_table.specs.Sweep.{no_order, cover_at, swept_of}
+use Rattle.replay_table.specs.Sweep.{swept_of}
 use Rattle.replay_table.specs.Change.{unchanged, loaded_by, new_write, insertion, grown_by, stored_by, swapped_by}
 use Rattle.replay_table.specs.declared.access.Change.{Change}
 use Rattle.replay_machine.specs.Shared.{reachable_by, reachable, uncovered, may_pick, fetch_added, memory_after}
-use Rattle.replay_machine.specs.Refusal.{total, adding, pick_refusal}
+use Rattle.replay_machine.specs.Refusal.{adding, pick_refusal}
 use Rattle.replay_machine.specs.Locals.{registers_after}
 use Rattle.replay_machine.specs.declared.effect.Effect.{Effect}
 use Rattle.replay_machine.specs.declared.locals.Registers.{Registers}

@@ -1,12 +1,12 @@
 -- The run over the caller's table, from its start to its end, is the replay: the answer is the replay's, and the table has the writes that
 -- the replay shows, with the other entries as they were.
-use Prim.Native.Nat.{ℕ, suc, ◌+◌, ◌-◌, ◌≤◌, ◌<◌, min}
+use Prim.Native.Nat.{ℕ, ◌+◌, ◌-◌, ◌≤◌, ◌<◌}
 use mathlib.Core.Path.{◌≡◌, refl, ap, sym, ◌∙◌, subst}
-use mathlib.Core.Bool.{Bool, true, false, cond}
-use mathlib.Core.List.{List, [], ◌∷◌, ◌++◌}
+use mathlib.Core.Bool.{Bool, true, false}
+use mathlib.Core.List.{List, [], ◌++◌}
 use native.Mathlib.Omega.{arith}
 use lib.Dec.{ltb}
-use lib.ListN.{length, get_or, take, drop, get_or-append}
+use lib.ListN.{length, get_or, drop, get_or-append}
 use lib.Seq.{take_all, length-take-le, length_front, get_or-append-add, get_or-drop, ext_get_or}
 use borrow.Author.Tests.{lt-ltb, le-ltb, ltb-true, ltb-false}
 use Rattle.semantics.specs.Machine.{State, begin}
@@ -27,7 +27,7 @@ use Rattle.replay_memory.specs.declared.memory.Memory.{Memory}
 use Rattle.replay_machine.specs.Start.{start_memory, started}
 use Rattle.replay_machine.specs.State.{threads_of}
 use Rattle.replay_machine.specs.Run.{ran}
-use Rattle.replay_machine.specs.Replayed.{room_of, of_run, replay_on, blank}
+use Rattle.replay_machine.specs.Replayed.{room_of, of_run, replay_on}
 use Rattle.replay_machine.specs.Answer.{answer_of}
 use Rattle.replay_machine.specs.ShownTable.{entries}
 use Rattle.replay_machine.specs.OutputTable.{shown_in, shown_of, placed}
@@ -257,7 +257,7 @@ ended_answer : (z : Sizes) (room code words : ℕ) (b : List ℕ) (R : ℕ) (giv
     → answer_by (ended_with z room code (start_threads b R given))
     ≡ answer_of (record { code = code; steps = 0; held = false; words = words; machine = started b R given })
 unfolding answer_by answer_of start_threads started
-ended_answer z room code words b R given = refl
+ended_answer z _ code words b R given = refl
 
 module _ (s trace given : List ℕ) (table : List Write) (short : length trace ≤ 18446744073709551615) where
   abbrev lent : ℕ

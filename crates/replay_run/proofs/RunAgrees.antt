@@ -1,14 +1,13 @@
 -- A run over a table is the run on the whole memory: the same code, steps and threads, and the first entries of the table are the memory's.
 use Prim.Native.Nat.{ℕ, zero, suc, ◌+◌, ◌-◌, ◌≤◌, ◌<◌}
 use mathlib.Core.Path.{◌≡◌, refl, ap, sym, ◌∙◌, subst}
-use mathlib.Core.Bool.{Bool, true, false, cond}
+use mathlib.Core.Bool.{Bool, true, false}
 use mathlib.Core.List.{List, [], ◌∷◌}
 use native.Mathlib.Omega.{arith}
-use native.Mathlib.Numerals.{add-one}
-use lib.Dec.{eqb, ltb}
+use lib.Dec.{eqb}
 use lib.ListN.{length, get_or, drop}
 use lib.Seq.{get_or-drop, drop-drop}
-use borrow.Author.Tests.{lt-ltb, le-ltb, eq-eqb, ne_eqb, eqb-true, eqb-false}
+use borrow.Author.Tests.{lt-ltb, le-ltb, eqb-true, eqb-false}
 use Rattle.semantics.specs.Machine.{State, Program, exec, instr_at}
 use Rattle.image_frames.specs.Records.{bodies}
 use Rattle.image_header.specs.declared.sizes.Sizes.{Sizes}
@@ -24,12 +23,10 @@ use Rattle.replay_machine.specs.Step.{Stepped, stepped}
 use Rattle.replay_machine.specs.Run.{ran}
 use Rattle.replay_machine.specs.declared.state.Machine.{Machine}
 use Rattle.replay_machine.specs.declared.run.Run.{Run}
-use Rattle.replay_spec.specs.MachineReplay.{refusal}
-use Rattle.replay_spec.proofs.StepFollows.{Ready}
 use Rattle.replay_spec.proofs.RunFollows.{any_step}
 use Rattle.replay_run.specs.NextTurn.{no_turn, step_turn, next_turn}
 use Rattle.replay_run.specs.Turn.{counted, stopped, turn_by}
-use Rattle.replay_run.specs.RunIn.{turned, turn_on, run_to}
+use Rattle.replay_run.specs.RunIn.{turned, run_to}
 use Rattle.replay_run.specs.declared.course.Course.{Course}
 use Rattle.replay_run.specs.declared.next_turn.NextTurn.{NextTurn}
 use Rattle.replay_run.proofs.TableLies.{Lies, swept_none}

@@ -1,5 +1,5 @@
 -- The turns of a run over a table.
-use Prim.Native.Nat.{ℕ, zero, suc, ◌-◌, ◌≤◌, ◌<◌}
+use Prim.Native.Nat.{ℕ, zero, suc, ◌≤◌, ◌<◌}
 use mathlib.Core.Path.{◌≡◌, refl, ap, sym, ◌∙◌}
 use mathlib.Core.Bool.{Bool, true, false, cond}
 use mathlib.Core.List.{List}
@@ -13,7 +13,7 @@ use Rattle.replay_memory.specs.declared.write.Write.{Write}
 use Rattle.replay_table.specs.Sweep.{swept_of}
 use Rattle.replay_run.specs.NextTurn.{next_turn}
 use Rattle.replay_run.specs.Turn.{begun_by, stopped, performed_by, code_by, attempted_by, turn_by}
-use Rattle.replay_run.specs.RunIn.{turned, turn_on, run_to}
+use Rattle.replay_run.specs.RunIn.{turn_on, run_to}
 use Rattle.replay_run.specs.declared.course.Course.{Course}
 use Rattle.replay_run.specs.declared.next_turn.NextTurn.{NextTurn}
 
@@ -45,3 +45,36 @@ turn_less a x w h = go (eqb x.kind 0) (eqb x.kind 1) (eqb (code_by a x w) 0)
     go false true true = omega arith
     go false true false = omega arith
     go false false k = omega arith
+
+-- y is on the way from z: the turns that are left of the run from z are enough for y
+module _ (s trace : List ℕ) (z : List Write × Course) where
+  pub record OnTheWay (y : List Write × Course) : Type 0 where
+    pub turns : ℕ
+    pub enough : y.1.left ≤ turns
+    pub same : run_to s trace turns y ≡ run_to s trace z.1.left z
+
+  pub on_the_way : OnTheWay z
+  on_the_way = record { turns = z.1.left; enough = omega arith; same = refl }
+
+  -- a turn later
+  pub turn_later : (y x : List Write × Course) → OnTheWay y → 0 < y.1.left → x ≡ turn_on s trace y → OnTheWay x
+  turn_later y x h g e = go h.turns h.enough h.same
+    where
+      some : y.1.left ≡ 0 → ⊥
+      some d = omega (arith, d, g)
+
+      go : (t : ℕ) → y.1.left ≤ t → run_to s trace t y ≡ run_to s trace z.1.left z → OnTheWay x
+      go zero k d = absurd (omega arith)
+      go (suc t) k d = record {
+        turns = t;
+        enough = omega (
+          arith,
+          ap (λ (u : List Write × Course). u.1.left) e,
+          turn_less y.1 (next_turn s trace y.1) (get_or y.0 (next_turn s trace y.1).entry (start_write 0)) some,
+        );
+        same = ap (run_to s trace t) e ∙ sym (run_next s trace t y some) ∙ d;
+      }
+
+  -- at the end
+  pub way_done : (y : List Write × Course) → OnTheWay y → y.1.left ≡ 0 → y ≡ run_to s trace z.1.left z
+  way_done y h e = sym (run_done s trace h.turns y e) ∙ h.same

@@ -1,15 +1,15 @@
 -- The start writes, inserted one after another, are those of the memory at the start.
 use Prim.Native.Nat.{ℕ, zero, suc, ◌+◌, ◌-◌, ◌%◌, ◌≤◌, ◌<◌}
 use mathlib.Core.Path.{◌≡◌, refl, ap, sym, ◌∙◌, subst}
-use mathlib.Core.Bool.{Bool, true, false, cond}
-use mathlib.Core.List.{List, [], ◌∷◌}
+use mathlib.Core.Bool.{Bool, true, false}
+use mathlib.Core.List.{List, []}
 use native.Mathlib.Omega.{arith}
 use native.Mathlib.Nat.{mod-eq_of_lt}
 use native.Mathlib.Numerals.{add-one}
-use lib.Dec.{eqb, ltb}
+use lib.Dec.{ltb}
 use lib.ListN.{length, get_or, set, replicate, get_or-replicate}
 use lib.Seq.{set-get_or}
-use borrow.Author.Tests.{lt-ltb, ltb-true, ltb-false, eqb-true, eqb-false}
+use borrow.Author.Tests.{lt-ltb, ltb-true, ltb-false}
 use Rattle.limits.specs.Numbers.{nth}
 use Rattle.image_frames.specs.Records.{bodies}
 use Rattle.image_header.specs.Header.{start_values}
@@ -25,11 +25,10 @@ use Rattle.replay_table.specs.declared.order.Order.{Order}
 use Rattle.replay_table.proofs.Inserted.{before_stays, write_there, past_stays}
 use Rattle.replay_table.proofs.SweepBranches.{swept_length}
 use Rattle.replay_machine.specs.Start.{start_writes, start_memory}
-use Rattle.replay_run.specs.NextTurn.{start_turn, next_turn}
+use Rattle.replay_run.specs.NextTurn.{next_turn}
 use Rattle.replay_run.specs.Turn.{begun_by, turn_by}
 use Rattle.replay_run.specs.RunIn.{turned, run_to}
 use Rattle.replay_run.specs.declared.course.Course.{Course}
-use Rattle.replay_run.specs.declared.next_turn.NextTurn.{NextTurn}
 use Rattle.replay_run.proofs.TableLies.{Lies, cover_off}
 use Rattle.replay_run.proofs.RunTurns.{run_next}
 

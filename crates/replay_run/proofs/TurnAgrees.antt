@@ -1,22 +1,21 @@
 -- A step from the write that was read is the step on the whole memory: refused alike, or taken alike, and then the first entries of the
 -- table are the memory's again.
-use Prim.Native.Nat.{ℕ, zero, suc, ◌+◌, ◌-◌, ◌%◌, ◌≤◌, ◌<◌}
+use Prim.Native.Nat.{ℕ, zero, suc, ◌+◌, ◌-◌, ◌≤◌, ◌<◌}
 use mathlib.Core.Path.{◌≡◌, refl, ap, sym, ◌∙◌, subst}
 use mathlib.Core.Bool.{Bool, true, false, cond, true≢false}
 use mathlib.Core.List.{List, [], ◌∷◌}
 use native.Mathlib.Omega.{arith}
-use native.Mathlib.Nat.{mod-eq_of_lt}
 use native.Mathlib.Numerals.{sub-one}
 use lib.Dec.{eqb, ltb}
-use lib.ListN.{length, get_or, set}
-use borrow.Author.Tests.{lt-ltb, eq-eqb, ne_eqb, eqb-true, eqb-false, ltb-true, ltb-false}
+use lib.ListN.{length, get_or}
+use borrow.Author.Tests.{ne_eqb, eqb-true, eqb-false, ltb-true, ltb-false}
 use Rattle.semantics.specs.Base.{Within}
-use Rattle.semantics.specs.Machine.{State, Program, exec, instr_at}
+use Rattle.semantics.specs.Machine.{State, Program}
 use Rattle.image_frames.specs.Records.{bodies}
 use Rattle.image_header.specs.declared.sizes.Sizes.{Sizes}
 use Rattle.image_header.specs.declared.instruction.Instruction.{Instruction}
 use Rattle.image_header.specs.Thread.{last_point}
-use Rattle.image_bodies.specs.RecordPlaces.{thread_body, instruction_of}
+use Rattle.image_bodies.specs.RecordPlaces.{instruction_of}
 use Rattle.image_meaning.specs.Program.{point_count, program_of}
 use Rattle.image_meaning.proofs.RecordsChecked.{Checks}
 use Rattle.image_meaning.proofs.WellFormedProgram.{body}
@@ -25,11 +24,11 @@ use Rattle.replay_memory.specs.Write.{no_write, start_write}
 use Rattle.replay_memory.specs.Memory.{first, index_of, write_at}
 use Rattle.replay_memory.specs.declared.write.Write.{Write}
 use Rattle.replay_memory.specs.declared.memory.Memory.{Memory}
-use Rattle.replay_table.specs.Sweep.{no_order, swept_of}
+use Rattle.replay_table.specs.Sweep.{swept_of}
 use Rattle.replay_table.specs.declared.access.Change.{Change}
 use Rattle.replay_machine.specs.Shared.{reachable, may_pick, memory_after}
 use Rattle.replay_machine.specs.Refusal.{adding, pick_refusal}
-use Rattle.replay_machine.specs.Locals.{registers_after, point_after}
+use Rattle.replay_machine.specs.Locals.{registers_after}
 use Rattle.replay_machine.specs.State.{point_of, performed, threads_of}
 use Rattle.replay_machine.specs.Step.{Stepped, value_at, effect_at, last_of, refused, attempted, stepped}
 use Rattle.replay_machine.specs.declared.effect.Effect.{Effect}

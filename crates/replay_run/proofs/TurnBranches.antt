@@ -1,9 +1,8 @@
 -- The ways through the functions on values, one law for each that is not a chain of tests.
-use mathlib.Core.Path.{◌≡◌, refl, ◌∙◌, ap}
+use mathlib.Core.Path.{◌≡◌, ◌∙◌, ap}
 use Prim.Native.Nat.{ℕ, ◌+◌, ◌-◌, ◌%◌, ◌≤◌, ◌<◌}
-use mathlib.Core.Bool.{Bool, true, false, not, cond}
+use mathlib.Core.Bool.{Bool, true, false, not}
 use mathlib.Core.List.{List, []}
-use lib.Dec.{eqb, ltb}
 use lib.ListN.{length, get_or, set, replicate}
 use borrow.Author.Tests.{lt-ltb, le-ltb, eq-eqb, ne_eqb}
 use Rattle.limits.specs.Numbers.{nth}
@@ -29,9 +28,9 @@ use Rattle.replay_machine.specs.declared.effect.Effect.{Effect}
 use Rattle.replay_machine.specs.declared.locals.Registers.{Registers}
 use Rattle.replay_machine.specs.declared.state.Threads.{Threads}
 use Rattle.replay_run.specs.Pick.{uncovered_by, may_pick_by, refusal_by}
-use Rattle.replay_run.specs.Shared.{fetch_added_by, change_of}
-use Rattle.replay_run.specs.Course.{start_threads, ended_with, opened_on}
-use Rattle.replay_run.specs.NextTurn.{start_turn, no_turn, try_turn, point_by, step_turn, next_turn}
+use Rattle.replay_run.specs.Shared.{fetch_added_by}
+use Rattle.replay_run.specs.Course.{start_threads, opened_on}
+use Rattle.replay_run.specs.NextTurn.{start_turn, no_turn, try_turn, step_turn, next_turn}
 use Rattle.replay_run.specs.Turn.{counted, begun_by, stopped, threads_after, change_by, performed_by, code_by, attempted_by, turn_by}
 use Rattle.replay_run.specs.declared.course.Course.{Course}
 use Rattle.replay_run.specs.declared.next_turn.NextTurn.{NextTurn}

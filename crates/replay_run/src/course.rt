@@ -16,7 +16,7 @@ use replay_table::order::{Order, no_order};
 // The counts of the image, how many writes there may be, why the run ended, 0 while it goes on; the steps taken; what is left: the start
 // writes that are not yet inserted, then the bytes of the trace, 0 when the run has ended; the start writes inserted; the state of the
 // threads; the write that is to be inserted.
-#[derive(Drop)]
+#[derive(Clone, Copy)]
 pub struct Course {
     pub sizes: Sizes,
     pub room: usize,

@@ -1,5 +1,6 @@
 // A trace run on the caller's table of writes, in place. A step works out what it does from the write that it picks, which was read from
 // the table, and hands back the write that is to be inserted.
+#![tactic(auto)]
 
 // One step, from values.
 pub mod pick;

@@ -16,7 +16,7 @@ use replay_memory::memory::index_of;
 
 // A start write, of the effect's value; a step of thread `t`, counted from 0, at `position`, which picks the write of entry `entry`; or a
 // refusal: the thread is not there or at its last point, or the trace ends with half a step.
-#[derive(Drop)]
+#[derive(Clone, Copy)]
 pub struct NextTurn {
     pub kind: u8,
     pub t: u8,

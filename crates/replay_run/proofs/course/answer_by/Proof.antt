@@ -3,11 +3,9 @@ use Rattle.replay_run.specs.Course.{answer_by}
 use borrow.Author.Rules.{rules}
 use Rattle.replay_run.proofs.course.answer_by.Statement.{statement}
 use Rattle.replay_run.proofs.course.answer_by.Tie as tie
-use Rattle.replay_run.proofs.course.answer_by.Reads as reads
-use Rattle.replay_run.proofs.course.answer_by.Lts as lts
 
 -- src/course.rt:92:15
-cast-t6 : tie.Need-overflow-cast-t6
+cast-t6 : tie.Need-overflow_cast-result
 cast-t6 c = search rules
 
 -- src/course.rt:84:1

@@ -3,17 +3,13 @@ use Rattle.replay_run.proofs.TurnBranches.{threads_made}
 use borrow.Author.Rules.{rules}
 use Rattle.replay_run.proofs.course.start_threads.Statement.{statement}
 use Rattle.replay_run.proofs.course.start_threads.Tie as tie
-use Rattle.replay_run.proofs.course.start_threads.Reads as reads
-use Rattle.replay_run.proofs.course.start_threads.Lts as lts
-use Rattle.replay_machine.proofs.start.start_registers.Reads as start-registers-reads
-use Rattle.replay_memory.proofs.view.start_view.Reads as start-view-reads
 
 -- src/course.rt:35:9
-start-view-requires : tie.Need-start-view-requires
+start-view-requires : tie.Need-start_view-view-requires
 start-view-requires c κs = search rules
 
 -- src/course.rt:41:20
-start-registers-requires : tie.Need-start-registers-requires
+start-registers-requires : tie.Need-start_registers-requires
 start-registers-requires c κs = search rules
 
 -- src/course.rt:32:1

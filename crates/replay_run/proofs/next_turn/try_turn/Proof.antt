@@ -3,16 +3,13 @@ use Rattle.replay_run.proofs.TurnBranches.{try_made}
 use borrow.Author.Rules.{rules}
 use Rattle.replay_run.proofs.next_turn.try_turn.Statement.{statement}
 use Rattle.replay_run.proofs.next_turn.try_turn.Tie as tie
-use Rattle.replay_run.proofs.next_turn.try_turn.Reads as reads
-use Rattle.replay_run.proofs.next_turn.try_turn.Lts as lts
-use Rattle.replay_memory.proofs.memory.index_of.Reads as index-of-reads
 
 -- src/next_turn.rt:92:25
-slice-aggregate-index-of : tie.Need-slice-aggregate-index-of
+slice-aggregate-index-of : tie.Need-slice_bounds-index_of-end
 slice-aggregate-index-of c = search rules
 
 -- src/next_turn.rt:92:16
-index-of-requires : tie.Need-index-of-requires
+index-of-requires : tie.Need-index_of-requires
 index-of-requires c κs = search rules
 
 -- src/next_turn.rt:82:1

@@ -3,20 +3,17 @@ use Rattle.replay_run.proofs.TurnBranches.{is_uncovered_branches}
 use borrow.Author.Rules.{rules}
 use Rattle.replay_run.proofs.pick.is_uncovered.Statement.{statement}
 use Rattle.replay_run.proofs.pick.is_uncovered.Tie as tie
-use Rattle.replay_run.proofs.pick.is_uncovered.Reads as reads
-use Rattle.replay_run.proofs.pick.is_uncovered.Lts as lts
-use Rattle.replay_machine.proofs.shared.is_reachable.Reads as is-reachable-reads
 
 -- src/pick.rt:17:8
-is-reachable-requires : tie.Need-is-reachable-requires
+is-reachable-requires : tie.Need-is_reachable-requires
 is-reachable-requires c κs = search rules
 
 -- src/pick.rt:18:9
-returns : tie.Need-returns
+returns : tie.Need-returns-then-is_reachable
 returns c = search (is_uncovered_branches, tests)
 
 -- src/pick.rt:14:1
-returns-2 : tie.Need-returns-2
+returns-2 : tie.Need-returns
 returns-2 c = search (is_uncovered_branches, tests)
 
 pub is_uncovered_spec : {M : Type 1} → statement M

@@ -3,42 +3,37 @@ use Rattle.replay_run.proofs.TurnBranches.{pick_refusal_branches}
 use borrow.Author.Rules.{rules}
 use Rattle.replay_run.proofs.pick.pick_refusal.Statement.{statement}
 use Rattle.replay_run.proofs.pick.pick_refusal.Tie as tie
-use Rattle.replay_run.proofs.pick.pick_refusal.Reads as reads
-use Rattle.replay_run.proofs.pick.pick_refusal.Lts as lts
-use Rattle.replay_machine.proofs.pick.is_adding.Reads as is-adding-reads
-use Rattle.replay_memory.proofs.memory.first_of.Reads as first-of-reads
-use Rattle.replay_run.proofs.pick.may_pick.Reads as may-pick-reads
 
 -- src/pick.rt:58:8
-may-pick-requires : tie.Need-may-pick-requires
+may-pick-requires : tie.Need-may_pick-requires
 may-pick-requires c κs = search rules
 
 -- src/pick.rt:59:12
-is-adding-requires : tie.Need-is-adding-requires
+is-adding-requires : tie.Need-is_adding-requires
 is-adding-requires c κs = search rules
 
 -- src/pick.rt:61:25
-slice-aggregate-first-of : tie.Need-slice-aggregate-first-of
+slice-aggregate-first-of : tie.Need-slice_bounds-first_of-end
 slice-aggregate-first-of c = search rules
 
 -- src/pick.rt:61:16
-first-of-requires : tie.Need-first-of-requires
+first-of-requires : tie.Need-first_of-requires
 first-of-requires c κs = search rules
 
 -- src/pick.rt:62:17
-returns : tie.Need-returns
+returns : tie.Need-returns-then-first_of-room
 returns c = search (pick_refusal_branches, tests)
 
 -- src/pick.rt:64:13
-returns-2 : tie.Need-returns-2
+returns-2 : tie.Need-returns-then-is_adding
 returns-2 c = search (pick_refusal_branches, tests)
 
 -- src/pick.rt:66:9
-returns-3 : tie.Need-returns-3
+returns-3 : tie.Need-returns-then-may_pick
 returns-3 c = search (pick_refusal_branches, tests)
 
 -- src/pick.rt:47:1
-returns-4 : tie.Need-returns-4
+returns-4 : tie.Need-returns
 returns-4 c = search (pick_refusal_branches, tests)
 
 pub pick_refusal_spec : {M : Type 1} → statement M

@@ -3,29 +3,22 @@ use Rattle.replay_run.specs.Shared.{change_of}
 use borrow.Author.Rules.{rules}
 use Rattle.replay_run.proofs.shared.change_by.Statement.{statement}
 use Rattle.replay_run.proofs.shared.change_by.Tie as tie
-use Rattle.replay_run.proofs.shared.change_by.Reads as reads
-use Rattle.replay_run.proofs.shared.change_by.Lts as lts
-use Rattle.replay_run.proofs.shared.fetch_add.Reads as fetch-add-reads
-use Rattle.replay_table.proofs.access.load.Reads as load-reads
-use Rattle.replay_table.proofs.access.store.Reads as store-reads
-use Rattle.replay_table.proofs.access.swap.Reads as swap-reads
-use Rattle.replay_table.proofs.access.unchanged.Reads as unchanged-reads
 
 -- src/shared.rt:45:9
 load-requires : tie.Need-load-requires
 load-requires c κs = search rules
 
 -- src/shared.rt:45:9
-returns : tie.Need-returns
+returns : tie.Need-returns-then-op-eq-LOAD
 unfolding change_of
 returns c = search tests
 
 -- src/shared.rt:48:9
-load-requires-2 : tie.Need-load-requires-2
+load-requires-2 : tie.Need-load-requires-then-op-eq-ACQUIRE
 load-requires-2 c κs = search rules
 
 -- src/shared.rt:48:9
-returns-2 : tie.Need-returns-2
+returns-2 : tie.Need-returns-then-op-eq-ACQUIRE
 unfolding change_of
 returns-2 c = search tests
 
@@ -34,16 +27,16 @@ store-requires : tie.Need-store-requires
 store-requires c κs = search rules
 
 -- src/shared.rt:51:9
-returns-3 : tie.Need-returns-3
+returns-3 : tie.Need-returns-then-op-eq-STORE
 unfolding change_of
 returns-3 c = search tests
 
 -- src/shared.rt:54:9
-store-requires-2 : tie.Need-store-requires-2
+store-requires-2 : tie.Need-store-requires-then-op-eq-RELEASE
 store-requires-2 c κs = search rules
 
 -- src/shared.rt:54:9
-returns-4 : tie.Need-returns-4
+returns-4 : tie.Need-returns-then-op-eq-RELEASE
 unfolding change_of
 returns-4 c = search tests
 
@@ -52,52 +45,52 @@ swap-requires : tie.Need-swap-requires
 swap-requires c κs = search rules
 
 -- src/shared.rt:57:9
-returns-5 : tie.Need-returns-5
+returns-5 : tie.Need-returns-then-op-eq-SWAP
 unfolding change_of
 returns-5 c = search tests
 
 -- src/shared.rt:60:9
-swap-requires-2 : tie.Need-swap-requires-2
+swap-requires-2 : tie.Need-swap-requires-then-op-eq-EXCHANGE
 swap-requires-2 c κs = search rules
 
 -- src/shared.rt:60:9
-returns-6 : tie.Need-returns-6
+returns-6 : tie.Need-returns-then-op-eq-EXCHANGE
 unfolding change_of
 returns-6 c = search tests
 
 -- src/shared.rt:63:9
-fetch-add-requires : tie.Need-fetch-add-requires
+fetch-add-requires : tie.Need-fetch_add-requires
 fetch-add-requires c κs = search rules
 
 -- src/shared.rt:63:9
-returns-7 : tie.Need-returns-7
+returns-7 : tie.Need-returns-then-op-eq-FETCH_ADD
 unfolding change_of
 returns-7 c = search tests
 
 -- src/shared.rt:66:9
-store-requires-3 : tie.Need-store-requires-3
+store-requires-3 : tie.Need-store-requires-then-op-eq-PAIR_STORE
 store-requires-3 c κs = search rules
 
 -- src/shared.rt:66:9
-returns-8 : tie.Need-returns-8
+returns-8 : tie.Need-returns-then-op-eq-PAIR_STORE
 unfolding change_of
 returns-8 c = search tests
 
 -- src/shared.rt:69:9
-store-requires-4 : tie.Need-store-requires-4
+store-requires-4 : tie.Need-store-requires-then-op-eq-PAIR_RELEASE
 store-requires-4 c κs = search rules
 
 -- src/shared.rt:69:9
-returns-9 : tie.Need-returns-9
+returns-9 : tie.Need-returns-then-op-eq-PAIR_RELEASE
 unfolding change_of
 returns-9 c = search tests
 
 -- src/shared.rt:72:9
-swap-requires-3 : tie.Need-swap-requires-3
+swap-requires-3 : tie.Need-swap-requires-then-op-eq-PAIR_SWAP
 swap-requires-3 c κs = search rules
 
 -- src/shared.rt:72:9
-returns-10 : tie.Need-returns-10
+returns-10 : tie.Need-returns-then-op-eq-PAIR_SWAP
 unfolding change_of
 returns-10 c = search tests
 
@@ -106,7 +99,7 @@ unchanged-requires : tie.Need-unchanged-requires
 unchanged-requires c κs = search rules
 
 -- src/shared.rt:32:1
-returns-11 : tie.Need-returns-11
+returns-11 : tie.Need-returns
 unfolding change_of
 returns-11 c = search tests
 

@@ -3,11 +3,6 @@ use Rattle.replay_run.proofs.TurnBranches.{begin_made}
 use borrow.Author.Rules.{rules}
 use Rattle.replay_run.proofs.turn.begin_word.Statement.{statement}
 use Rattle.replay_run.proofs.turn.begin_word.Tie as tie
-use Rattle.replay_run.proofs.turn.begin_word.Reads as reads
-use Rattle.replay_run.proofs.turn.begin_word.Lts as lts
-use Rattle.replay_memory.proofs.view.next.Reads as next-reads
-use Rattle.replay_run.proofs.next_turn.minus.Reads as minus-reads
-use Rattle.replay_table.proofs.order.start_order.Reads as start-order-reads
 
 -- src/turn.rt:40:15
 minus-requires : tie.Need-minus-requires
@@ -18,7 +13,7 @@ next-requires : tie.Need-next-requires
 next-requires c κs = search rules
 
 -- src/turn.rt:43:16
-start-order-requires : tie.Need-start-order-requires
+start-order-requires : tie.Need-start_order-requires
 start-order-requires c κs = search rules
 
 -- src/turn.rt:30:1

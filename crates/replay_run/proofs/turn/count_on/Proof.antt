@@ -3,20 +3,18 @@ use Rattle.replay_run.specs.Turn.{counted}
 use borrow.Author.Rules.{rules}
 use Rattle.replay_run.proofs.turn.count_on.Statement.{statement}
 use Rattle.replay_run.proofs.turn.count_on.Tie as tie
-use Rattle.replay_run.proofs.turn.count_on.Reads as reads
-use Rattle.replay_run.proofs.turn.count_on.Lts as lts
 
 -- src/turn.rt:24:16
-add-result : tie.Need-overflow-add-result
+add-result : tie.Need-overflow_add-result
 add-result c = search rules
 
 -- src/turn.rt:24:9
-returns : tie.Need-returns
+returns : tie.Need-returns-then-n-lt18446744073709551615
 unfolding counted
 returns c = search tests
 
 -- src/turn.rt:20:1
-returns-2 : tie.Need-returns-2
+returns-2 : tie.Need-returns
 unfolding counted
 returns-2 c = search tests
 
