@@ -151,6 +151,18 @@ module _ (image buffer : List ℕ) (code : ℕ) (after : List ℕ) (p : Promise 
       pub accepted_only_if : code ≡ 0 → EachMet D × EachSustained D
       accepted_only_if = (p.judged D says).only_if
 
+    -- BY THE SOURCE: the image is refused for its form, with code and record, or there is a source that is written as it
+    abbrev FaultyOrWritten : Type 0
+    FaultyOrWritten =
+        ((f : Fault) × (i : ℕ) × (fields_in after ≡ gathered (code_of f) i nowhere 0 0)) ⊎ ((s : Source) × (Written.written s ≡ image))
+
+    pub faulty_or_written : FaultyOrWritten
+    unfolding fields_of
+    faulty_or_written = go p.by_source where
+      go : ((f : Fault) × (i : ℕ) × (verdict image ≡ Refused f i)) ⊎ SourceJudged image (verdict image) buffer code → FaultyOrWritten
+      go (inl (f, i, e)) = inl (f, i, numbers_read ∙ ap fields_of e)
+      go (inr j) = inr (j.source, j.bytes)
+
     -- THE SAME BY THE SOURCE s that is written as the image: it is refused for its form, or what is judged is what s means
     module _ (s : Source) (writes : Written.written s ≡ image) where
       -- a fault of the form with its code and record; or a content that s means, of which all are met, or the first that is not is named
