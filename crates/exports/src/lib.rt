@@ -1,4 +1,6 @@
 // Functions for the benchmarks, which call them from Rust: each result is one number.
+#![tactic(auto)]
+
 pub mod rows;
 
 ghost use Rattle.std.specs.Prelude.{◌≡◌, ◌+◌, replicate};
