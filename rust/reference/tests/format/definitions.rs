@@ -75,7 +75,7 @@ const LIMITS: &str = "limits/specs/Limits";
 /// The codes of all calls.
 fn codes() -> Vec<(&'static str, u32)> {
     let trim = "trim_encode/specs/Answer";
-    let room = "(cond (adds (instr_at P s t) && leb room (used s (P.words)))";
+    let room = "(cond (adds (instr_at P s t) && leb room (used s P.words))";
     vec![
         ("ACCEPTED", value(FIELDS, "fields_of (Accepted n) = gathered {} 0 nowhere 0 n")),
         (
