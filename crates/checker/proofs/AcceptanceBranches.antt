@@ -6,7 +6,6 @@ use Rattle.image_frames.specs.declared.fault.Fault.{Fault}
 use Rattle.image_header.specs.declared.sizes.Sizes.{Sizes}
 use Rattle.image.specs.Decode.{decoded}
 use Rattle.image.specs.declared.decode.Decoded.{Decoded}
-use Rattle.image.specs.declared.decode.Decoded.TheVariants as Decoded
 use Rattle.verdict_record.specs.declared.obligation.Obligation.{Obligation}
 use Rattle.verdict_record.specs.declared.obligation.Place.{Place}
 use Rattle.verdict_record.specs.declared.verdict.Verdict.{Verdict}

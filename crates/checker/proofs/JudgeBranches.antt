@@ -11,7 +11,6 @@ use Rattle.image_frames.specs.declared.fault.Fault.{Fault}
 use Rattle.image_header.specs.declared.sizes.Sizes.{Sizes}
 use Rattle.image.specs.Decode.{decoded}
 use Rattle.image.specs.declared.decode.Decoded.{Decoded}
-use Rattle.image.specs.declared.decode.Decoded.TheVariants as Decoded
 use Rattle.logic_outline.specs.Verdict as Outline
 use Rattle.logic_outline.specs.Verdict.{accepted, denied, judgement, judge_claims, behind_obligations}
 use Rattle.image_meaning.specs.Program.{program_of}
@@ -30,7 +29,6 @@ use Rattle.obligations.proofs.JudgementAgrees.{judged_is, claims_are}
 use Rattle.verdict_record.specs.declared.obligation.Obligation.{Obligation}
 use Rattle.verdict_record.specs.declared.obligation.Place.{Place}
 use Rattle.verdict_record.specs.declared.verdict.Verdict.{Verdict}
-use Rattle.verdict_record.specs.declared.verdict.Verdict.TheVariants as Verdict
 use Rattle.checker_spec.specs.ImageVerdict.{judged, answered, verdict}
 use Rattle.checker.specs.VerdictFound.{points_of, denied_at, claims_verdict, verdict_of, sound_verdict}
 

@@ -15,7 +15,6 @@ use Rattle.obligations.specs.declared.judgement.Judgement.{Judgement}
 use Rattle.obligations.specs.declared.judgement.Judgement.TheVariants.{Met, Failed}
 use Rattle.verdict_record.specs.declared.obligation.Place.{Place}
 use Rattle.verdict_record.specs.declared.verdict.Verdict.{Verdict}
-use Rattle.verdict_record.specs.declared.verdict.Verdict.TheVariants as Verdict
 
 -- the place of a claim in a verdict: claims have class 0
 unfoldable pub points_of : Claimed → Place
