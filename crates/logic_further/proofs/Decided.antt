@@ -64,7 +64,7 @@ up_to Q f (suc n) = go (f (suc n)) (up_to Q f n)
     go (inr h) (inr g) = inr (λ k. by_word (suc n) (λ k. k ≤ suc n → Q k → ⊥) (λ b. h) (λ k d b. g k (omega arith)) k)
 
 -- a cut beyond the end is one at the end
-within_list : (k : ℕ) (l : List View) → (m : ℕ) × (m ≤ length l) × (take k l ≡ take m l) × (drop k l ≡ drop m l)
+pub within_list : (k : ℕ) (l : List View) → (m : ℕ) × (m ≤ length l) × (take k l ≡ take m l) × (drop k l ≡ drop m l)
 within_list zero l = (0, omega arith, refl, refl)
 within_list (suc k) [] = (0, omega arith, refl, refl)
 within_list (suc k) (v ∷ l) =

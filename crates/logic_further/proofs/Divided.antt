@@ -44,7 +44,7 @@ module _ (x : ℕ) where
 
   -- n views, of which each names the next position of x, from a on
   module _ (v : View) where
-    climb : ℕ → ℕ → List View
+    unfoldable pub climb : ℕ → ℕ → List View
     climb a zero = []
     climb a (suc n) = upd v x a ∷ climb (suc a) n
 
@@ -135,7 +135,7 @@ module _ (x : ℕ) where
     abbrev steps : ℕ
     steps = s.size x - s.view u x
 
-    climbed : Prospect s.size (s.view u) (climb (s.view u) (s.view u x) steps)
+    pub climbed : Prospect s.size (s.view u) (climb (s.view u) (s.view u x) steps)
     unfolding climb
     climbed = go steps (omega (arith, wf.view_in u x)) (omega (arith, wf.view_in u x))
       where
@@ -144,7 +144,7 @@ module _ (x : ℕ) where
         go (suc n) b c = climb_from s.size (s.view u) (s.view u) (wf.view_in u) (suc n) (s.view u x)
             (by_word x _ (simp upds (omega arith)) (λ y q. simp upds (omega arith))) c
 
-    seen : (i : Interval) → T (only (along x) i) → Sat P.range (at P s) i (climb (s.view u) (s.view u x) steps) → Sees P s u i
+    pub seen : (i : Interval) → T (only (along x) i) → Sat P.range (at P s) i (climb (s.view u) (s.view u x) steps) → Sees P s u i
     seen i k h [] pr = elim pr [ ]
     seen i k h (w ∷ l) pr =
         spread (s.view u) P s i k (s.view u x) steps (s.view u x) (s.size x) (omega arith) (omega (arith, wf.view_in u x)) h (w ∷ l)

@@ -11,4 +11,5 @@ pub mod TicketWait
 pub mod PetersonJoint
 pub mod Corr2
 pub mod Weaker
+pub mod Worked
 pub mod Neighbours
