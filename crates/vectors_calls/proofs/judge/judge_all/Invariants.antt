@@ -5,7 +5,8 @@ use Rattle.vectors_calls.specs.Kind.{tail_of}
 use Rattle.vectors_calls.proofs.judge.judge_all.Given as goal
 
 abbrev pub invariant-loop-left : goal.invariant-loop-left
-invariant-loop-left g l = (space_bytes ≡ length l.space) × (118 ≡ length l.stored) × (l.tail ≡ tail_of l.kind) × Running l.tally l.left
+invariant-loop-left g l =
+    (space_bytes ≡ length l.space) × (118 ≡ length l.stored) × (l.tail ≡ tail_of l.kind) × Running l.tally l.left
 
 abbrev pub decreases-loop-left : goal.decreases-loop-left
 decreases-loop-left g l = l.left
