@@ -1,5 +1,4 @@
-// The caller's table as a slice of write structs, the form that the scope page names: the run works on it, in place. A function over such
-// a slice is proved by a walk of its code, by hand, so these are thin.
+// The caller's table as a slice of write structs, the form that the scope page names: the run works on it, in place.
 ghost use Rattle.std.specs.Prelude.{◌≡◌, replicate};
 ghost use Rattle.image_index.specs.IndexTable.{table_size};
 ghost use Rattle.replay_spec.specs.Promise.{Into};

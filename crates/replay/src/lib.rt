@@ -1,4 +1,5 @@
 // Replay of a trace on an accepted image; `replay_trace` and `replay_into` are the entry points.
+#![tactic(auto)]
 
 // On a table of bytes.
 pub mod entry;
