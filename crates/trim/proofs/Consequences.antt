@@ -1,6 +1,6 @@
 -- WHAT A CALLER OF `trim_image` MAY CONCLUDE, from its promise alone, in the order and the words of Change 2. What holds of the trimmed
 -- image is in `trim_encode/proofs/TrimmedConsequences.antt`.
-use mathlib.Core.Path.{◌≡◌, ap, sym, ◌∙◌, subst}
+use mathlib.Core.Path.{◌≡◌, ◌∙◌}
 use mathlib.Core.List.{List, ◌++◌}
 use Prim.Native.Nat.{ℕ, ◌≤◌, ◌<◌}
 use lib.ListN.{length, take, drop}
@@ -11,7 +11,6 @@ use Rattle.checker_spec.specs.Acceptance.{acceptance}
 use Rattle.checker_spec.specs.declared.acceptance.Acceptance.TheVariants.{Granted, Declined}
 use Rattle.trim_encode.specs.Answer.{answered_by, buffer_by, answer_for, buffer_for}
 use Rattle.trim_encode.specs.Trimmed.{trimmed_bytes, Trimmed}
-use Rattle.trim_encode.specs.declared.answer.Answer.{Answer}
 use Rattle.trim_encode.proofs.TrimmedConsequences.{again_same}
 use Rattle.trim.specs.Promise.{Promise}
 

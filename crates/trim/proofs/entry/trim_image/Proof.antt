@@ -7,5 +7,5 @@ use Rattle.trim.proofs.entry.trim_image.Tie as tie
 
 pub trim_image_spec : {M : Type 1} → statement M
 trim_image_spec = tie.close (tie.spec (λ c κs. search rules) (λ c. search rules)
-    (λ c. promised _ _ (λ i h. omega (arith, c.before.before.before.before.before.shared-slice-known.given i))
-    c.before.before.trim-into.result _ (search tests) (search tests)))
+    (λ c. promised _ _ (λ i h. omega (arith, c.shared_slice_known-1.given i))
+    c.trim_into-a.result _ (search tests) (search tests)))

@@ -5,14 +5,11 @@ use borrow.Author.Rules.{rules}
 use Rattle.trim.proofs.trimming.trim_by.Statement.{statement}
 use Rattle.trim.proofs.trimming.trim_by.Tie as tie
 
-trim-accepted-requires : tie.Need-trim-accepted-requires
+trim-accepted-requires : tie.Need-trim_accepted-requires
 trim-accepted-requires c κs = (
   search tests,
-  accepted_of _ c.before.before.before.before.before.before.before.accept-image.result _
-      (λ i h. omega (
-        arith,
-        c.before.before.before.before.before.before.before.before.before.before.before.shared-slice-known.given i,
-      )) (search tests) (search tests),
+  accepted_of _ c.accept_image.result _
+      (λ i h. omega (arith, c.shared_slice_known-1.given i)) (search tests) (search tests),
 )
 
 pub trim_by_spec : {M : Type 1} → statement M
