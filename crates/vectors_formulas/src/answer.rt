@@ -21,7 +21,7 @@ pub fn kind_of(reading: Reading) -> usize
     }
 }
 
-// Whether a reading is the stored one: `result` is 0 or the fault, and `sort` is 0 where the formula is refused.
+// Whether a reading is the stored one: `res` is 0 or the fault, and `sort` is 0 where the formula is refused.
 pub fn is_answer(reading: Reading, res: usize, sort: usize) -> bool
     ensures { result ≡ is_answer reading res sort }
 {
