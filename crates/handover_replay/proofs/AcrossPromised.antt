@@ -56,7 +56,6 @@ use Rattle.replay_machine.specs.declared.output.Shown.{Shown}
 use Rattle.replay_machine.specs.OutputTable.{shown_in, shown_of, shown_by, entries_in, laid, table_for}
 use Rattle.replay_spec.specs.Plain.{of_regs, plain_true}
 use Rattle.replay_spec.specs.AnswerStands.{AnswerStands, TableStands}
-use Rattle.replay_spec.specs.Promise as Replaying
 use Rattle.replay_spec.proofs.AbsentThreads.{absent_point, absent_register, register_kept}
 use Rattle.replay_spec.proofs.PlainWorked.{plain-true}
 use Rattle.replay_spec.proofs.RoomEnough.{fits, used_first}

@@ -1,24 +1,22 @@
 -- WHAT A CALLER OF `replay_handover` MAY CONCLUDE, from its promise alone, in the order and the words of Change 12.
-use mathlib.Core.Path.{◌≡◌, refl, ap, sym, ◌∙◌}
+use mathlib.Core.Path.{◌≡◌, ap, ◌∙◌}
 use mathlib.Core.Bool.{true}
 use mathlib.Core.List.{List, [], ◌∷◌, ◌++◌}
 use Prim.Native.Nat.{ℕ, suc, ◌+◌, ◌*◌, ◌≤◌, ◌<◌}
 use lib.Dec.{T}
 use lib.ListN.{length, get_or, take, drop, replicate}
 use Rattle.semantics.specs.Base.{Within}
-use Rattle.semantics.specs.Formula.{Formula, Formula.both_a, Formula.either_a, Formula.holds}
 use Rattle.semantics.specs.Machine.{State, Program, begin, run}
 use Rattle.semantics.specs.Truth.{True}
-use Rattle.semantics.specs.EveryRun.{Outline, Holds}
+use Rattle.semantics.specs.EveryRun.{Outline}
 use Rattle.limits.specs.Numbers.{nth}
 use Rattle.image_frames.specs.Records.{bodies}
 use Rattle.image_header.specs.declared.sizes.Sizes.{Sizes}
 use Rattle.image_meaning.specs.Program.{program_of, outline_of}
 use Rattle.checker_spec.specs.Acceptance.{acceptance}
-use Rattle.checker_spec.specs.declared.acceptance.Acceptance.TheVariants.{Granted, Declined}
+use Rattle.checker_spec.specs.declared.acceptance.Acceptance.TheVariants.{Granted}
 use Rattle.tables_columns.specs.Column.{column}
 use Rattle.replay_memory.specs.Write.{start_write}
-use Rattle.replay_memory.specs.MemoryStands.{SameWrite}
 use Rattle.replay_memory.specs.declared.write.Write.{Write}
 use Rattle.replay_machine.specs.Replayed.{room_of}
 use Rattle.replay_machine.specs.declared.answer.Answer.{Answer}

@@ -1,4 +1,5 @@
 // Replay across a handover (Change 12): `replay_handover` is the entry point, specs/Promise.antt what it promises.
+#![tactic(auto)]
 
 // Runs across a handover: the state at the handover, and the run after it.
 pub mod mapped;

@@ -15,12 +15,12 @@ run_both_spec =
     (λ c κs. search rules)
     (λ c κs. (
       (
-        c.before.before.before.before.before.before.before.before.before.before.before.before.before.requires.0.0,
-        c.before.before.before.before.before.before.before.before.before.before.before.before.before.requires.0.1,
+        c.requires.0.0,
+        c.requires.0.1,
       ),
       (
-        c.before.before.before.before.before.before.before.before.before.before.before.before.before.requires.1,
-        c.run-counted.ensures.1,
+        c.requires.1,
+        c.run_counted-run.ensures.1,
       ),
     ))
     (λ c. search (both_run, tests)))

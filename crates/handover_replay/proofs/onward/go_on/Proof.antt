@@ -9,7 +9,7 @@ pub go_on_spec : {M : Type 1} → statement M
 go_on_spec = tie.close (tie.spec (λ c κs. search rules) (λ c κs. search rules)
     (λ c. omega (
       arith,
-      c.before.before.before.run-counted.ensures.1,
-      c.before.before.before.before.before.before.before.before.before.before.before.before.before.requires.1.1,
+      c.run_counted-q.ensures.1,
+      c.requires.1.1,
     ))
     (λ c. search (on_taken, tests)) (λ c. search (on_refused, tests)))

@@ -7,4 +7,4 @@ use Rattle.handover_replay.proofs.onward.run_counted.Tie as tie
 
 pub run_counted_spec : {M : Type 1} → statement M
 run_counted_spec = tie.close (tie.spec (λ c κs. search rules)
-    (λ c. (search tests, omega (arith, steps_few _ _ _ _ _ _ c.run-trace.ensures))))
+    (λ c. (search tests, omega (arith, steps_few _ _ _ _ _ _ c.run_trace.ensures))))
