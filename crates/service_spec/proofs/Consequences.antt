@@ -1,15 +1,15 @@
 -- WHAT A CALLER OF THE SERVICE MAY CONCLUDE, from the promise of its calls and from isolation alone, in the order and words of Change 13.
 use mathlib.Core.Path.{◌≡◌, refl, ap, sym, ◌∙◌}
 use mathlib.Core.Bool.{Bool, true, false, cond, ◌&&◌, and-false}
-use mathlib.Core.List.{List, [], ◌∷◌, ◌++◌}
+use mathlib.Core.List.{List, ◌++◌}
 use mathlib.Core.Logic.{◌≢◌}
-use mathlib.Core.Option.{Option, none, some}
+use mathlib.Core.Option.{Option}
 use Prim.Native.Nat.{ℕ, ◌+◌, ◌-◌, ◌≤◌, ◌<◌}
 use native.Mathlib.Omega.{arith}
 use lib.Dec.{eqb}
 use lib.ListN.{get_or, get_elem?, set, take}
 use borrow.Author.Tests.{le-leb, lt-leb, eq-eqb, ne_eqb}
-use Rattle.service_spec.specs.Account.{Account, holds, account_of, admission}
+use Rattle.service_spec.specs.Account.{holds, account_of, admission}
 use Rattle.service_spec.specs.Opening.{rights_given, opened}
 use Rattle.service_spec.specs.Serving.{Call, raised, serve_by, requests_of, observed_by}
 use Rattle.service_spec.specs.Isolation.{Isolated}
