@@ -2,7 +2,7 @@
 use image_header::sizes::Sizes;
 
 // An accepted image with the counts of its records, or an image that is not accepted.
-#[derive(Drop)]
+#[derive(Clone, Copy)]
 pub enum Acceptance {
     Granted(Sizes),
     Declined,

@@ -9,13 +9,13 @@ use Rattle.limits.specs.Numbers.{le16}
 use Rattle.formula.specs.Tree.{parse_tree}
 use Rattle.tables_rows.specs.ByRows.{rows_t, table_t, line_of, premises_of}
 use Rattle.tables_rows.specs.declared.by_rows.Implications.{Implications}
-use Rattle.exports.specs.Answers.{ofTruth}
+use Rattle.exports.specs.Answers.{of_truth}
 use Rattle.exports.specs.Places.{pairs_in, side_in, implications_in}
 
 pub rows_is : (s : List ℕ) (a b v r : ℕ) (t : Bool) → t ≡ rows_t v (parse_tree s nesting a).tree (parse_tree s nesting b).tree
-    → r ≡ ofTruth t
-    → r ≡ ofTruth (rows_t v (parse_tree s nesting a).tree (parse_tree s nesting b).tree)
-rows_is s a b v r t e h = h ∙ ap ofTruth e
+    → r ≡ of_truth t
+    → r ≡ of_truth (rows_t v (parse_tree s nesting a).tree (parse_tree s nesting b).tree)
+rows_is s a b v r t e h = h ∙ ap of_truth e
 
 pub side_is : (p : List ℕ) (a b c d e : ℕ) → a ≡ le16 (drop 0 p) → b ≡ le16 (drop 4 p) → c ≡ le16 (drop 8 p) → d ≡ le16 (drop 12 p)
     → e ≡ le16 (drop 16 p)
@@ -29,8 +29,8 @@ unfolding implications_in
 implications_is p q l r n x y z w = rw (x, z, y, w)
 
 pub table_is : (s p : List ℕ) (i : Implications) (r : ℕ) (t : Bool) → i ≡ implications_in p → t ≡ table_t (premises_of s i) (line_of s i)
-    → r ≡ ofTruth t
-    → r ≡ ofTruth (table_t (premises_of s (implications_in p)) (line_of s (implications_in p)))
-table_is s p i r t e h g = g ∙ ap ofTruth (h ∙ ap (λ (i : Implications). table_t (premises_of s i) (line_of s i)) e)
+    → r ≡ of_truth t
+    → r ≡ of_truth (table_t (premises_of s (implications_in p)) (line_of s (implications_in p)))
+table_is s p i r t e h g = g ∙ ap of_truth (h ∙ ap (λ (i : Implications). table_t (premises_of s i) (line_of s i)) e)
 
 pub ruleset rows_branches = (rows_is, side_is, implications_is, table_is)

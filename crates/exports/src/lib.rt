@@ -7,7 +7,7 @@ ghost use Rattle.std.specs.Prelude.{◌≡◌, ◌+◌, replicate};
 ghost use Rattle.formula.specs.Reader.{limit, reading_of};
 ghost use Rattle.image_index.specs.IndexTable.{table_size};
 ghost use Rattle.image.specs.Decode.{decoded};
-ghost use Rattle.exports.specs.Answers.{ofReading, ofDecoded};
+ghost use Rattle.exports.specs.Answers.{of_reading, of_decoded};
 
 use formula::reader::{Counts, Fault, Reading, read_formula};
 use image::decode::{Decoded, decode_image};
@@ -30,7 +30,7 @@ pub extern "C" fn formula_answer(
     registers: u8,
     values: u8,
 ) -> usize
-    ensures { result ≡ ofReading (reading_of body.now
+    ensures { result ≡ of_reading (reading_of body.now
         (record { threads = threads; words = words; registers = registers; values = values })) }
 {
     let counts = Counts {
@@ -48,7 +48,7 @@ pub extern "C" fn formula_answer(
 // Decodes with `index` as scratch memory: zeros, table_size(image) of them. No image has 65,536 records; `%` spares a proof of that.
 fn answer_by<'a, 'b>(image: &'a [u8], index: &'b mut [usize]) -> usize
     requires { index.old ≡ replicate (table_size image.now) 0 }
-    ensures { result ≡ ofDecoded (decoded image.now) }
+    ensures { result ≡ of_decoded (decoded image.now) }
 {
     fill_index(image, index);
     match decode_image(image, index) {
@@ -60,7 +60,7 @@ fn answer_by<'a, 'b>(image: &'a [u8], index: &'b mut [usize]) -> usize
 // The result of `decode_image` as one number: 0 for a well-formed image, else the code times 65,536, plus the record.
 #[unsafe(no_mangle)]
 pub extern "C" fn image_answer(image: &[u8]) -> usize
-    ensures { result ≡ ofDecoded (decoded image.now) }
+    ensures { result ≡ of_decoded (decoded image.now) }
 {
     if image.len() <= IndexSize::SHORT_IMAGE {
         let mut index = [0usize; IndexSize::SHORT];

@@ -3,7 +3,7 @@ ghost use Rattle.std.specs.Prelude.{◌≡◌};
 ghost use Rattle.limits.specs.Limits.{nesting};
 ghost use Rattle.formula.specs.Tree.{parse_tree};
 ghost use Rattle.tables_rows.specs.ByRows.{rows_t, table_t, line_of, premises_of};
-ghost use Rattle.exports.specs.Answers.{ofTruth};
+ghost use Rattle.exports.specs.Answers.{of_truth};
 ghost use Rattle.exports.specs.Places.{pairs_in, side_in, implications_in};
 
 use limits::Limits;
@@ -13,7 +13,7 @@ use tables_rows::entailment::Sizes;
 
 // 1 for true, 0 for false.
 fn truth(yes: bool) -> usize
-    ensures { result ≡ ofTruth yes }
+    ensures { result ≡ of_truth yes }
 {
     if yes {
         return 1;
@@ -24,14 +24,14 @@ fn truth(yes: bool) -> usize
 // The result of `by_rows` for the tests at positions `left` and `right` of `body`, over `range` values.
 #[unsafe(no_mangle)]
 pub extern "C" fn rows_answer(body: &[u8], left: usize, right: usize, range: u8) -> usize
-    ensures { result ≡ ofTruth (rows_t range (parse_tree body.now nesting left).tree (parse_tree body.now nesting right).tree) }
+    ensures { result ≡ of_truth (rows_t range (parse_tree body.now nesting left).tree (parse_tree body.now nesting right).tree) }
 {
     let k = Limits::NESTING;
     truth(by_rows(body, left, k, right, k, range))
 }
 
 // The positions of the left or of the right formulas, one for each implication.
-#[derive(Drop)]
+#[derive(Clone, Copy)]
 pub struct Side {
     pub at: [usize; Sizes::IMPLICATIONS],
 }
@@ -79,7 +79,7 @@ fn implications_in(places: &[u8]) -> Implications
 // The result of `by_table` for the implications at these positions of `body`.
 #[unsafe(no_mangle)]
 pub extern "C" fn table_answer(body: &[u8], places: &[u8]) -> usize
-    ensures { result ≡ ofTruth (table_t (premises_of body.now (implications_in places.now))
+    ensures { result ≡ of_truth (table_t (premises_of body.now (implications_in places.now))
         (line_of body.now (implications_in places.now))) }
 {
     truth(by_table(body, implications_in(places)))

@@ -12,7 +12,7 @@ use image_index::look_up::body_of;
 use limits::Limits;
 
 // Entry k says whether formula k is an assertion without start. Entry 0 belongs to the header, which is body 0.
-#[derive(Drop)]
+#[derive(Clone, Copy)]
 pub struct Outlined {
     pub on: [bool; Limits::FORMULAS + 1],
 }

@@ -7,7 +7,7 @@ use crate::kind::{Kind, order_of};
 use limits::read::u16_at;
 
 // What the walk over the frames has seen: the last record's kind, by its place in the order, and the number of records of each kind.
-#[derive(Drop)]
+#[derive(Clone, Copy)]
 pub struct Seen {
     pub last: usize,
     pub count: [u16; 8],

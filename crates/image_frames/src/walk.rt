@@ -9,7 +9,7 @@ use limits::Limits;
 use limits::read::u16_at;
 
 // The first fault of the frames with its record, or the number of records of each kind that may repeat.
-#[derive(Drop)]
+#[derive(Clone, Copy)]
 pub enum Framing {
     Refused {
         fault: Fault,

@@ -10,7 +10,7 @@ use limits::Limits;
 use limits::read::u16_at;
 
 // The first thread's record: how many records there are before it, and where it starts.
-#[derive(Drop)]
+#[derive(Clone, Copy)]
 pub struct FirstThread {
     pub number: usize,
     pub position: usize,

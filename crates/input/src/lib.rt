@@ -11,7 +11,7 @@ ghost use Rattle.input.specs.Reached.{reached_by, Goes};
 use std::io::{Error, Read};
 
 // How a buffer was filled.
-#[derive(Drop)]
+#[derive(Clone, Copy)]
 pub enum Filled {
     Full,
     // The input ended after this many bytes.
@@ -21,7 +21,7 @@ pub enum Filled {
 }
 
 // What one read has led to.
-#[derive(Drop)]
+#[derive(Clone, Copy)]
 enum Reached {
     // More bytes came; this many are there now.
     More(usize),

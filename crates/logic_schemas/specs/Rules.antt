@@ -21,10 +21,10 @@ pub data By : Type 0 where
   by_notes r_by_x x_by_f : By
 
 infix 30 ◌is◌with◌
--- side conditions. p is q with b: p is q after the substitution; start_of: it is the start value of the word; starts-at-0: the register
--- starts at 0; is-new: it is the new write's value (fresh_value);
--- kept: rule 1's condition (keeps); lacks-x: it has neither the word x, in any role, nor the result register; no_flag: it has neither
--- unsync x nor cov x; by_rows: wherever the left test is true the right one is; by-table: rule 20's truth table
+-- side conditions. p is q with b: p is q after the substitution; start_of: it is the start value of the word; starts_at_0: the register
+-- starts at 0; is_new: it is the new write's value (fresh_value);
+-- kept: rule 1's condition (keeps); lacks_x: it has neither the word x, in any role, nor the result register; no_flag: it has neither
+-- unsync x nor cov x; by_rows: wherever the left test is true the right one is; by_table: rule 20's truth table
 pub data Side : Type 0 where
   ◌is◌with◌ : {s : Sort} → Pattern s → Pattern s → By → Side
   start_of : Num → Pattern Sort.value → Side

@@ -5,7 +5,7 @@ ghost use Rattle.rules_justified.specs.Marks.{as_marks, is_marked, with_mark};
 use limits::Limits;
 
 // The mark of line n is entry n - 1.
-#[derive(Drop)]
+#[derive(Clone, Copy)]
 pub struct Marks {
     pub on: [bool; Limits::LINES],
 }

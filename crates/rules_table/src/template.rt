@@ -2,7 +2,7 @@ ghost use Rattle.std.specs.Prelude.{◌≡◌};
 ghost use Rattle.rules_table.specs.RuleTable.{templates};
 
 // The templates of all rules, one after another: of each rule its left and right side, then those of its premises.
-#[derive(Drop)]
+#[derive(Clone, Copy)]
 pub struct Templates {
     pub bytes: [u8; 444],
 }

@@ -3,7 +3,7 @@ ghost use Rattle.std.specs.Prelude.{◌≡◌};
 ghost use Rattle.service_spec.specs.Account.{holds, admission};
 
 // What a caller may ask for: check (also trimming and permitting a handover), replay (also across one), bill.
-#[derive(Drop)]
+#[derive(Clone, Copy)]
 pub enum Right {
     Check,
     Replay,

@@ -1,7 +1,7 @@
 // The answer of a call for trimming.
 
 // The code, and the number of bytes written, which is 0 with an error.
-#[derive(Drop)]
+#[derive(Clone, Copy)]
 pub struct Answer {
     pub code: u16,
     pub length: usize,

@@ -8,7 +8,7 @@ use input::{Filled, fill};
 use std::io::Read;
 
 // The length of the next case's body, or why there is none.
-#[derive(Drop)]
+#[derive(Clone, Copy)]
 pub enum Next {
     Case(usize),
     Over(End),

@@ -40,7 +40,7 @@ impl Room {
 }
 
 // What is done: the service is opened, the host sets a caller's number, or a call is made; Other is none of these.
-#[derive(Drop)]
+#[derive(Clone, Copy)]
 pub enum TurnKind {
     Open,
     Set,

@@ -1,5 +1,5 @@
 -- The ways to the line that is written, one law for each.
-use mathlib.Core.Path.{◌≡◌}
+use mathlib.Core.Path.{◌≡◌, refl}
 use mathlib.Core.List.{List, []}
 use Prim.Native.Nat.{ℕ}
 use lib.ListN.{take, drop}
@@ -12,7 +12,10 @@ use Rattle.verdict_record.specs.Text.{text_of}
 use Rattle.verdict_record.specs.declared.verdict.Fields.{Fields}
 use Rattle.verdict_record.specs.declared.verdict.Verdict.{Verdict}
 use Rattle.checker_spec.specs.ImageVerdict.{verdict_within}
-use Rattle.verdict.specs.Line.{line_of, line_for}
+use Rattle.std.specs.Prelude.{Ok, Err}
+use Rattle.input.specs.Filled.{Fits}
+use Rattle.verdict_record.specs.declared.text.Text.{Text}
+use Rattle.verdict.specs.Line.{line_of, line_for, Holds, Told, Answered}
 
 pub line_judged : (s x : List ℕ) (v : Verdict) (f : Fields) → v ≡ verdict_within Limits.program_bytes s → f ≡ fields_of v → x ≡ text_of f
     → x ≡ line_of s
@@ -31,5 +34,16 @@ module _ (how : Filled) (s x : List ℕ) where
 pub line_failed : (how : Filled) (s : List ℕ) (x : Error) → how ≡ Failed x → [] ≡ line_for how s
 unfolding line_for
 line_failed how s x e = rw e
+
+pub told_failed : (how : Filled) (s : List ℕ) (x : Error) → Fits how s → how ≡ Failed x → Answered (Err x) s
+unfolding Told
+told_failed how s x f e = record { filled = how; fits = f; told = rw e refl }
+
+pub told_line : (how : Filled) (s : List ℕ) (text : Text) → Fits how s → ((x : Error) → how ≡ Failed x → ⊥) → Holds text (line_for how s)
+    → Answered (Ok text) s
+unfolding Told
+told_line Full s text f apart h = record { filled = Full; fits = f; told = (text, refl, h) }
+told_line (Ended n) s text f apart h = record { filled = Ended n; fits = f; told = (text, refl, h) }
+told_line (Failed x) s text f apart h = absurd (apart x refl)
 
 pub ruleset line_branches = (line_judged, line_full, line_ended, line_failed)

@@ -1,11 +1,13 @@
 -- The line of text for what was read from the input.
-use Rattle.std.specs.Prelude.{◌≡◌, List, [], ℕ, take}
+use Rattle.std.specs.Prelude.{◌≡◌, List, [], ℕ, ◌≤◌, take, Result, Ok, Err}
+use Rattle.std.specs.declared.io.Error.{Error}
 use Rattle.limits.specs.Limits as Limits
 use Rattle.input.specs.Filled.{Fits}
 use Rattle.input.specs.declared.Filled.{Filled}
 use Rattle.input.specs.declared.Filled.TheVariants.{Full, Ended, Failed}
 use Rattle.verdict_record.specs.Fields.{fields_of}
-use Rattle.verdict_record.specs.Text.{text_of}
+use Rattle.verdict_record.specs.Text.{text_of, room}
+use Rattle.verdict_record.specs.declared.text.Text.{Text}
 use Rattle.checker_spec.specs.ImageVerdict.{verdict_within}
 
 -- the line of the verdict on the image; "the program still refuses above 65,535" bytes
@@ -23,3 +25,19 @@ pub record Answers (buffer line : List ℕ) : Type 0 where
   pub filled : Filled
   pub fits : Fits filled buffer
   pub is : line ≡ line_for filled buffer
+
+-- the text holds the line, within its room
+abbrev pub Holds : Text → List ℕ → Type 0
+Holds text line = (take text.len text.bytes ≡ line) × (text.len ≤ room)
+
+-- what is told of a buffer that was filled so: the line for what came; where a read failed its error, and no line
+unfoldable pub Told : Filled → List ℕ → Result Text Error → Type 0
+Told Full buffer answer = (text : Text) × (answer ≡ Ok text) × Holds text (line_for Full buffer)
+Told (Ended n) buffer answer = (text : Text) × (answer ≡ Ok text) × Holds text (line_for (Ended n) buffer)
+Told (Failed e) buffer answer = answer ≡ Err e
+
+-- the answer is the one for what filled the buffer, whatever that was
+pub record Answered (answer : Result Text Error) (buffer : List ℕ) : Type 0 where
+  pub filled : Filled
+  pub fits : Fits filled buffer
+  pub told : Told filled buffer answer

@@ -1,7 +1,7 @@
 // The line of text for what was read from the input.
 ghost use Rattle.std.specs.Prelude.{◌≡◌, ◌≤◌, take, IfOk};
 ghost use Rattle.verdict_record.specs.Text.{room};
-ghost use Rattle.verdict.specs.Line.{line_of, line_for, Answers};
+ghost use Rattle.verdict.specs.Line.{line_of, line_for, Answers, Answered};
 
 use checker::judge::judge_within;
 use input::{Filled, fill};
@@ -33,10 +33,11 @@ fn line_for(filled: Filled, buf: &[u8]) -> Text
     }
 }
 
-// Reads the input into the buffer and returns the line for it, or the error of the read that failed; then nothing is judged, and what the
+// Reads the input into the buffer and returns the line for it, or the error of the read that failed. Then nothing is judged, and what the
 // buffer holds is not said.
 pub fn answer<R: Read>(reader: &mut R, buf: &mut [u8]) -> io::Result<Text>
-    ensures { IfOk result (λ text. Answers buf.new (take text.len text.bytes) × (text.len ≤ room)) }
+    ensures line { IfOk result (λ text. Answers buf.new (take text.len text.bytes) × (text.len ≤ room)) }
+    ensures told { Answered result buf.new }
 {
     let filled = fill(reader, buf);
     if let Filled::Failed(error) = filled {

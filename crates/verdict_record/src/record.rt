@@ -18,7 +18,7 @@ impl VerdictRecord {
 }
 
 // The bytes of the record.
-#[derive(Drop)]
+#[derive(Clone, Copy)]
 pub struct Record {
     pub bytes: [u8; VerdictRecord::SIZE],
 }

@@ -25,7 +25,7 @@ impl Line {
 }
 
 // A text in a fixed buffer, of which the first `len` bytes are written.
-#[derive(Drop)]
+#[derive(Clone, Copy)]
 pub struct Text {
     pub bytes: [u8; Line::ROOM],
     pub len: usize,
