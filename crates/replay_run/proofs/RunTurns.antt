@@ -53,9 +53,6 @@ module _ (s trace : List ℕ) (z : List Write × Course) where
     pub enough : y.1.left ≤ turns
     pub same : run_to s trace turns y ≡ run_to s trace z.1.left z
 
-  pub on_the_way : OnTheWay z
-  on_the_way = record { turns = z.1.left; enough = omega arith; same = refl }
-
   -- a turn later
   pub turn_later : (y x : List Write × Course) → OnTheWay y → 0 < y.1.left → x ≡ turn_on s trace y → OnTheWay x
   turn_later y x h g e = go h.turns h.enough h.same

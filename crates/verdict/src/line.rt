@@ -36,8 +36,8 @@ fn line_for(filled: Filled, buf: &[u8]) -> Text
 // Reads the input into the buffer and returns the line for it, or the error of the read that failed. Then nothing is judged, and what the
 // buffer holds is not said.
 pub fn answer<R: Read>(reader: &mut R, buf: &mut [u8]) -> io::Result<Text>
-    ensures line { IfOk result (λ text. Answers buf.new (take text.len text.bytes) × (text.len ≤ room)) }
     ensures told { Answered result buf.new }
+    ensures line { IfOk result (λ text. Answers buf.new (take text.len text.bytes) × (text.len ≤ room)) }
 {
     let filled = fill(reader, buf);
     if let Filled::Failed(error) = filled {
