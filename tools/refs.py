@@ -1,7 +1,8 @@
 #!/usr/bin/env python3
 """Every path, identifier and command that a document names in backticks or in a block of commands exists.
 
-Documents are the pages (*.md), crates.txt and the header; the notes of landings and of the port tell what was then, and are left out.
+Documents are the pages (*.md), crates.txt and the header; the notes of landings, of the port and of the pass over its forms tell what was
+then, and are left out.
 
 - A word with a slash is a file or a folder, seen from the root, from the document's folder, from crates/ or rust/, or an edit CRATE/NAME.
 - CRATE::MODULE::ITEM is an item of that crate's module; of other paths each part has to be a word of some source.
@@ -167,7 +168,7 @@ def faults(repository, document):
 def main():
     os.chdir(os.path.join(os.path.dirname(os.path.abspath(__file__)), '..'))
     repository = Repository()
-    pages = [name for name in repository.files if name.endswith('.md') and not name.startswith(('docs/landings/', 'docs/PORT'))]
+    pages = [name for name in repository.files if name.endswith('.md') and not name.startswith(('docs/landings/', 'docs/PORT', 'docs/DESIGN-PASS'))]
     documents = sorted(pages) + ['crates.txt', 'include/hidokpalu.h']
     count = 0
     for document in documents:

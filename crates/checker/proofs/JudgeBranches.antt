@@ -1,18 +1,15 @@
 -- The ways through the checker, one law for each.
 use mathlib.Core.Path.{◌≡◌, refl, ap, sym, ◌∙◌}
-use mathlib.Core.Bool.{Bool, true, false, cond}
 use mathlib.Core.List.{List}
 use Prim.Native.Nat.{ℕ}
-use lib.Dec.{eqb}
-use borrow.Author.Tests.{eq-eqb, ne_eqb}
+use Rattle.std.specs.Prelude.{Option, Some, None, Ok, Err}
 use Rattle.logic.specs.Obligations.{obligations}
 use Rattle.image_frames.specs.Records.{bodies}
-use Rattle.image_frames.specs.declared.fault.Fault.{Fault}
+use Rattle.image_frames.specs.declared.fault.Refusal.{Refusal}
 use Rattle.image_header.specs.declared.sizes.Sizes.{Sizes}
-use Rattle.image.specs.Decode.{decoded}
-use Rattle.image.specs.declared.decode.Decoded.{Decoded}
+use Rattle.image.specs.Decode.{Decoded, decoded}
 use Rattle.logic_outline.specs.Verdict as Outline
-use Rattle.logic_outline.specs.Verdict.{accepted, denied, judgement, judge_claims, behind_obligations}
+use Rattle.logic_outline.specs.Verdict.{judgement, judge_claims, behind_obligations}
 use Rattle.image_meaning.specs.Program.{program_of}
 use Rattle.image_meaning.specs.Image.{claim_body, claim_place, image_of, result_of, decode}
 use Rattle.image_access.specs.AccessPlaces.{claimed_in}
@@ -22,15 +19,15 @@ use Rattle.rules_justified.specs.declared.marks.Marks.{Marks}
 use Rattle.rules_justified.specs.Justify.{marks_to}
 use Rattle.rules_justified.proofs.JustifiedAgree.{marks_are}
 use Rattle.obligations.specs.Claims.{first_denied}
-use Rattle.obligations.specs.Judgement.{judge_at, to_judgement}
-use Rattle.obligations.specs.declared.judgement.Judgement.{Judgement}
-use Rattle.obligations.specs.declared.judgement.Judgement.TheVariants.{Met, Failed}
-use Rattle.obligations.proofs.JudgementAgrees.{judged_is, claims_are}
-use Rattle.verdict_record.specs.declared.obligation.Obligation.{Obligation}
+use Rattle.obligations.specs.Unmet.{code_number}
+use Rattle.obligations.specs.Judgement.{Judgement, judge_at, to_judgement}
+use Rattle.obligations.specs.declared.judgement.Failure.{Failure}
+use Rattle.obligations.proofs.JudgementAgrees.{found, judged_is, claims_are, failed_code}
 use Rattle.verdict_record.specs.declared.obligation.Place.{Place}
 use Rattle.verdict_record.specs.declared.verdict.Verdict.{Verdict}
+use Rattle.checker_spec.proofs.ShorterLimit.{within_long, within_short}
 use Rattle.checker_spec.specs.ImageVerdict.{judged, answered, verdict}
-use Rattle.checker.specs.VerdictFound.{points_of, denied_at, claims_verdict, verdict_of, sound_verdict}
+use Rattle.checker.specs.VerdictFound.{points_of, denied_at, by_first, claims_verdict, verdict_of, sound_verdict}
 
 pub denied_placed : (s : List ℕ) (z : Sizes) (i n : ℕ) (c : Claimed) (k : ℕ) (p : Place) → c ≡ claimed_in (claim_body z (bodies s) i)
     → k ≡ claim_place z i → p ≡ points_of c
@@ -38,16 +35,14 @@ pub denied_placed : (s : List ℕ) (z : Sizes) (i n : ℕ) (c : Claimed) (k : �
 unfolding denied_at
 denied_placed s z i n c k p ec ek ep = rw (ep, ek, ec)
 
-module _ (s : List ℕ) (z : Sizes) (m : Marks) (n k : ℕ) (e : k ≡ first_denied s z m z.claims 0) where
-  pub claims_borne : k ≡ z.claims → Verdict.Accepted n ≡ claims_verdict s z m n
+module _ (s : List ℕ) (z : Sizes) (m : Marks) (n : ℕ) (k : Option ℕ) (e : k ≡ first_denied s z m z.claims 0) where
+  pub claims_borne : k ≡ None → Verdict.Accepted n ≡ claims_verdict s z m n
   unfolding claims_verdict
-  claims_borne h = rw (← e, eq-eqb _ _ h)
+  claims_borne h = rw (← e, h)
 
-  pub claims_denied : (r : Verdict) → (k ≡ z.claims → ⊥) → r ≡ denied_at s z k n → r ≡ claims_verdict s z m n
+  pub claims_denied : (i : ℕ) (r : Verdict) → k ≡ Some i → r ≡ denied_at s z i n → r ≡ claims_verdict s z m n
   unfolding claims_verdict
-  claims_denied r h d = rw (← e, ne_eqb _ _ h) d
-
-pub ruleset judge_branches = (denied_placed, claims_borne, claims_denied)
+  claims_denied i r h d = rw (← e, h) d
 
 module _ (s : List ℕ) (z : Sizes) (m : Marks) (r : Judgement) (e : m ≡ marks_to s z z.lines)
     (d : r ≡ judge_at s z m (obligations (program_of z (bodies s))) 0) where
@@ -55,45 +50,49 @@ module _ (s : List ℕ) (z : Sizes) (m : Marks) (r : Judgement) (e : m ≡ marks
   unfolding sound_verdict
   sound_is = rw (← e, ← d)
 
-  pub sound_met : (n : ℕ) (v : Verdict) → r ≡ Met n → v ≡ claims_verdict s z m n → v ≡ sound_verdict s z
+  pub sound_met : (n : ℕ) (v : Verdict) → r ≡ Ok n → v ≡ claims_verdict s z m n → v ≡ sound_verdict s z
   sound_met n v h g = g ∙ ap (verdict_of s z m) (sym h) ∙ sound_is
 
-  pub sound_failed : (o : Obligation) (c l n : ℕ) → r ≡ Failed o c l n → Verdict.Failed o c l n ≡ sound_verdict s z
-  sound_failed o c l n h = ap (verdict_of s z m) (sym h) ∙ sound_is
-
-pub ruleset judge_sound_branches = (sound_met, sound_failed)
+  pub sound_failed : (f : Failure) (c : ℕ) → r ≡ Err f → c ≡ code_number f.unmet → Verdict.Failed f.what c f.line f.count ≡ sound_verdict s z
+  sound_failed f c h g = ap (λ (x : ℕ). Verdict.Failed f.what x f.line f.count) g ∙ ap (verdict_of s z m) (sym h) ∙ sound_is
 
 module _ (s : List ℕ) (d : Decoded) (e : d ≡ decoded s) where
-  pub judge_refused : (f : Fault) (i : ℕ) → d ≡ Decoded.Refused f i → Verdict.Refused f i ≡ verdict s
+  pub judge_refused : (r : Refusal) → d ≡ Err r → Verdict.Refused r.fault r.«record» ≡ verdict s
   unfolding verdict decode
-  judge_refused f i h = ap (λ (x : Decoded). answered (result_of (bodies s) x)) (sym h ∙ e)
+  judge_refused r h = ap (λ (x : Decoded). answered (result_of (bodies s) x)) (sym h ∙ e)
 
   module _ (z : Sizes) (m : Marks) where
     abbrev D : Outline.Image
     D = image_of z (bodies s)
 
-    agree : ((n : ℕ) → judge_claims D z.claims 0 n ≡ cond (eqb (first_denied s z m z.claims 0) z.claims) (accepted n)
-        (denied (first_denied s z m z.claims 0) n))
-        → (x : Outline.Judgement) → verdict_of s z m (to_judgement x) ≡ judged D (behind_obligations D x)
+    agree : ((n : ℕ) → judge_claims D z.claims 0 n ≡ found (first_denied s z m z.claims 0) n)
+        → (x : Outline.Judgement) → judgement D ≡ x → verdict_of s z m (to_judgement x) ≡ judged D (behind_obligations D x)
     unfolding claims_verdict denied_at claimed_in points_of
-    agree h (Outline.met n) = rw (h n) (go (eqb (first_denied s z m z.claims 0) z.claims))
+    agree h (Outline.met n) w = rw (h n) (go (first_denied s z m z.claims 0))
       where
-        k : ℕ
-        k = first_denied s z m z.claims 0
+        go : (k : Option ℕ) → by_first s z k n ≡ judged D (found k n)
+        go None = refl
+        go (Some k) = refl
+    agree h (Outline.failed c o l n) w = rw (failed_code D c o l n w)
 
-        go : (b : Bool) → cond b (Verdict.Accepted n) (denied_at s z k n) ≡ judged D (cond b (accepted n) (denied k n))
-        go true = refl
-        go false = refl
-    agree h (Outline.failed c o l n) = refl
-
-  pub judge_found : (z : Sizes) (r : Verdict) → d ≡ Decoded.Sound z → r ≡ sound_verdict s z → r ≡ verdict s
+  pub judge_found : (z : Sizes) (r : Verdict) → d ≡ Ok z → r ≡ sound_verdict s z → r ≡ verdict s
   unfolding verdict decode sound_verdict
   judge_found z r h g =
-      let q : decoded s ≡ Decoded.Sound z = sym e ∙ h in
+      let q : decoded s ≡ Ok z = sym e ∙ h in
       let c = sound_checks s z q in
       let m = marks_to s z z.lines in
       g ∙ ap (verdict_of s z m) (judged_is s z c m (λ k w. marks_are s z c k))
-      ∙ agree z m (claims_are s z c m (λ k w. marks_are s z c k)) (judgement (image_of z (bodies s)))
+      ∙ agree z m (claims_are s z c m (λ k w. marks_are s z c k)) (judgement (image_of z (bodies s))) refl
       ∙ ap (λ (x : Decoded). answered (result_of (bodies s) x)) (sym q)
 
-pub ruleset judge_by_branches = (judge_refused, judge_found)
+pub ruleset judging = (
+  denied_placed,
+  claims_borne,
+  claims_denied,
+  sound_met,
+  sound_failed,
+  judge_refused,
+  judge_found,
+  within_long,
+  within_short,
+)

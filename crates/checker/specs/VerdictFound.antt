@@ -1,5 +1,5 @@
 -- The verdict on a well-formed image as the code finds it: the marks of all lines, then the obligations and the claims.
-use Rattle.std.specs.Prelude.{cond, List, ℕ, eqb}
+use Rattle.std.specs.Prelude.{List, ℕ, Option, Some, None, Ok, Err}
 use Rattle.logic.specs.Obligations.{obligations}
 use Rattle.image_frames.specs.Records.{bodies}
 use Rattle.image_header.specs.declared.sizes.Sizes.{Sizes}
@@ -10,9 +10,8 @@ use Rattle.image_access.specs.declared.claim.Claimed.{Claimed}
 use Rattle.rules_justified.specs.declared.marks.Marks.{Marks}
 use Rattle.rules_justified.specs.Justify.{marks_to}
 use Rattle.obligations.specs.Claims.{first_denied}
-use Rattle.obligations.specs.Judgement.{judge_at}
-use Rattle.obligations.specs.declared.judgement.Judgement.{Judgement}
-use Rattle.obligations.specs.declared.judgement.Judgement.TheVariants.{Met, Failed}
+use Rattle.obligations.specs.Judgement.{Judgement, judge_at}
+use Rattle.obligations.specs.Unmet.{code_number}
 use Rattle.verdict_record.specs.declared.obligation.Place.{Place}
 use Rattle.verdict_record.specs.declared.verdict.Verdict.{Verdict}
 
@@ -26,15 +25,19 @@ module _ (s : List ℕ) (z : Sizes) where
   denied_at i n = Verdict.Denied (claim_place z i) (points_of (claimed_in (claim_body z (bodies s) i)))
       (claimed_in (claim_body z (bodies s) i)).line n
 
+  -- the verdict by the first claim that is denied, if there is one, after n met obligations
+  abbrev pub by_first : Option ℕ → ℕ → Verdict
+  by_first None n = Verdict.Accepted n
+  by_first (Some i) n = denied_at i n
+
   -- the verdict by the claims, after n met obligations
   unfoldable pub claims_verdict : Marks → ℕ → Verdict
-  claims_verdict m n = cond (eqb (first_denied s z m z.claims 0) z.claims) (Verdict.Accepted n)
-      (denied_at (first_denied s z m z.claims 0) n)
+  claims_verdict m n = by_first (first_denied s z m z.claims 0) n
 
   -- the verdict by the judgement on the obligations
   abbrev pub verdict_of : Marks → Judgement → Verdict
-  verdict_of m (Met n) = claims_verdict m n
-  verdict_of m (Failed o c l n) = Verdict.Failed o c l n
+  verdict_of m (Ok n) = claims_verdict m n
+  verdict_of m (Err f) = Verdict.Failed f.what (code_number f.unmet) f.line f.count
 
   -- the verdict on a well-formed image with sizes z
   unfoldable pub sound_verdict : Verdict

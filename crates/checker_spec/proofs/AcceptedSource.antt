@@ -10,11 +10,11 @@ use Rattle.trim_spec.specs.Canonical.{Bytes}
 use Rattle.source.specs.TrueFor.{TrueFor}
 use Rattle.source_agrees.proofs.Theorem.{SourceFor, sound_means}
 use Rattle.checker_spec.specs.Acceptance.{acceptance}
-use Rattle.checker_spec.specs.declared.acceptance.Acceptance.TheVariants.{Granted}
+use Rattle.std.specs.Prelude.{Some}
 use Rattle.checker_spec.proofs.AcceptedHolds.{granted_holds}
 use Rattle.checker_spec.proofs.AcceptedRuns.{run_true, accepted_runs}
 
-module _ (s : List ℕ) (z : Sizes) (bytes : Bytes s) (granted : acceptance s ≡ Granted z) where
+module _ (s : List ℕ) (z : Sizes) (bytes : Bytes s) (granted : acceptance s ≡ Some z) where
   pub granted_means : SourceFor s (image_of z (bodies s))
   granted_means = sound_means s z bytes (granted_holds s z granted).sound
 

@@ -22,8 +22,7 @@ use Rattle.image_header.specs.declared.sizes.Sizes.{Sizes}
 use Rattle.image_bodies.specs.NumberList.{exactly}
 use Rattle.image_bodies.specs.PointCounts.{obligation_count}
 use Rattle.image_bodies.specs.ListBody as Lists
-use Rattle.image.specs.Decode.{sizes_of, decoded}
-use Rattle.image.specs.declared.decode.Decoded.{Decoded}
+use Rattle.image.specs.Decode.{sizes_of, decoded, Decoded}
 use Rattle.logic_outline.specs.Lines.{marked}
 use Rattle.logic_outline.specs.Verdict as Outline
 use Rattle.logic_outline.specs.Verdict.{Image, Judgement, met, failed, judgement, Finding, denied, judge_claims, behind_obligations}
@@ -44,6 +43,7 @@ use Rattle.checker_spec.specs.ImageVerdict.{judged, answered, verdict}
 use Rattle.verdict_record.specs.Uncut.{beyond, Uncut}
 use Rattle.checker_spec.proofs.RefusedRecord.{header_threads, last_named, refused_within}
 use Rattle.checker_spec.proofs.ObligationsCounted.{most_obligations, obligations_few}
+use Rattle.std.specs.Prelude.{Ok, Err}
 
 -- codes
 
@@ -233,5 +233,5 @@ unfolding verdict decode
 verdict_uncut s = go (decoded s) refl
   where
     go : (d : Decoded) → decoded s ≡ d → Uncut (fields_of (answered (result_of (bodies s) d)))
-    go (Decoded.Refused f i) e = refused_uncut f i (refused_within s f i e)
-    go (Decoded.Sound z) e = judgement_uncut s z (sound_checks s z e) (judgement (image_of z (bodies s))) refl
+    go (Err r) e = refused_uncut r.fault r.«record» (refused_within s r.fault r.«record» e)
+    go (Ok z) e = judgement_uncut s z (sound_checks s z e) (judgement (image_of z (bodies s))) refl

@@ -1,5 +1,5 @@
 -- A refusal names no record past the limits.
-use mathlib.Core.Path.{◌≡◌, refl, ◌∙◌}
+use mathlib.Core.Path.{◌≡◌, refl, ap, ◌∙◌}
 use mathlib.Core.Bool.{Bool, true, false, cond, ◌&&◌}
 use mathlib.Core.List.{List, [], ◌∷◌}
 use mathlib.Core.Logic.{◌≢◌}
@@ -13,14 +13,11 @@ use Rattle.limits.specs.Limits as Limits
 use Rattle.limits.specs.Numbers.{le16, within, every}
 use Rattle.image_frames.specs.Kinds as Kinds
 use Rattle.image_frames.specs.Kinds.{order, most}
-use Rattle.image_frames.specs.Frames.{counted, frame, ended, unless_faulty, walk, none, frames, whole_image}
+use Rattle.image_frames.specs.Frames.{counted, frame, ended, unless_faulty, walk, none, frames, whole_image, Framing, refused, sound}
 use Rattle.image_frames.specs.Records.{bodies}
 use Rattle.image_frames.specs.declared.fault.Fault.{Fault}
 use Rattle.image_frames.specs.declared.fault.Fault.TheVariants.{Size, Kind}
-use Rattle.image_frames.specs.declared.fault.Checked.{Checked}
-use Rattle.image_frames.specs.declared.fault.Checked.TheVariants.{Passed, Faulty}
 use Rattle.image_frames.specs.declared.frame.Seen.{Seen}
-use Rattle.image_frames.specs.declared.walk.Framing.{Framing}
 use Rattle.image_frames.proofs.PassedFrame.{framed}
 use Rattle.image_frames.proofs.KindCounts.{counts_few}
 use Rattle.image_header.specs.declared.sizes.Sizes.{Sizes}
@@ -29,13 +26,13 @@ use Rattle.image_header.specs.Header.{value_range, start_values, owners, marks, 
 use Rattle.image_header.proofs.HeaderBranches.{counted_in}
 use Rattle.image.specs.Body.{place_of, check}
 use Rattle.image.specs.Decode as Decode
-use Rattle.image.specs.Decode.{record_count, sizes_of, first_fault, behind_frames, decoded}
-use Rattle.image.specs.declared.decode.Decoded.{Decoded}
-use Rattle.image.specs.declared.decode.Decoded.TheVariants.{Refused, Sound}
+use Rattle.image.specs.Decode.{record_count, sizes_of, first_fault, behind_frames, decoded, Decoded}
 use Rattle.image_meaning.proofs.Sums.{sum}
 use Rattle.checker_spec.proofs.BoundedSums.{sum_falls}
 use Rattle.limits.proofs.PassedTests.{and_true}
 use Rattle.image_meaning.proofs.PassedChecks.{unless_passed}
+use Rattle.image_frames.specs.Fault.{Checked, passed}
+use Rattle.std.specs.Prelude.{Ok, Err}
 
 -- of all kinds together, how many records may still come
 left : Seen → ℕ
@@ -89,8 +86,8 @@ first = record { all_kinds = refl; few = omega arith; fewer = λ k. small k }
 
 -- what the frames say: a record within the limits, or no more formulas than there may be records
 abbrev Within : Framing → Type 0
-Within (Framing.Refused f r) = r ≤ suc Limits.records
-Within (Framing.Sound formulas threads lines claims) = formulas ≤ Limits.records
+Within (Err r) = r.«record» ≤ suc Limits.records
+Within (Ok n) = n.formulas ≤ Limits.records
 
 ended_within : (i : ℕ) (c : Seen) → Before i c → Within (ended i c)
 unfolding ended
@@ -99,8 +96,8 @@ ended_within i c b = go (ltb c.last Kinds.obligations)
     count : ℕ → ℕ
     count k = get_or c.count k 0
 
-    go : (p : Bool) → Within (cond p (Framing.Refused Kind i)
-        (Framing.Sound (count Kinds.formula) (count Kinds.thread) (count Kinds.line) (count Kinds.last)))
+    go : (p : Bool) → Within (cond p (refused Kind i)
+        (sound (count Kinds.formula) (count Kinds.thread) (count Kinds.line) (count Kinds.last)))
     go true = let f = b.few in omega arith
     go false = let f = b.few in let g = b.fewer Kinds.formula in omega arith
 
@@ -118,20 +115,20 @@ walk_within (suc k) i c (x ∷ l) b =
     rest = walk k (i + 1) (counted c kind) (drop (2 + le16 (x ∷ l)) (x ∷ l))
 
     go : (f : Checked) → frame c (x ∷ l) ≡ f → (Before (i + 1) (counted c kind) → Within rest) → Within (unless_faulty f i rest)
-    go Passed e h = let a = (framed c (x ∷ l) e).admits in h (behind i c kind b a.known a.few)
-    go (Faulty f) e h = let g = b.few in omega arith
+    go (Ok _) e h = let a = (framed c (x ∷ l) e).admits in h (behind i c kind b a.known a.few)
+    go (Err f) e h = let g = b.few in omega arith
 
 whole_within : (s : List ℕ) → Within (whole_image s)
 unfolding whole_image frames
 whole_within s = go (eqb (length s) 0) (ltb Limits.image_bytes (length s))
   where
-    go : (p q : Bool) → Within (cond p (Framing.Refused Size 0) (cond q (Framing.Refused Size 0) (walk (length s) 1 none s)))
+    go : (p q : Bool) → Within (cond p (refused Size 0) (cond q (refused Size 0) (walk (length s) 1 none s)))
     go true q = omega arith
     go false true = omega arith
     go false false = walk_within (length s) 1 none s first
 
 -- a header that passes has as many threads as there may be
-pub header_threads : (t : ℕ) (b : List ℕ) → header t b ≡ Passed → get_or b 0 0 ≤ Limits.threads
+pub header_threads : (t : ℕ) (b : List ℕ) → header t b ≡ passed → get_or b 0 0 ≤ Limits.threads
 unfolding header headed
 header_threads t b e =
     let h = (unless_passed _ _ _ (unless_passed _ _ _ (unless_passed _ _ _ e).1).1).0 in
@@ -139,15 +136,21 @@ header_threads t b e =
     && (every (within 1 (get_or b 0 0)) (owners b) && every (within 0 1) (marks b)) in
     (counted_in t b (and_true (Header.counted t b) lists h).0).threads.1
 
-refused_number : (f g : Fault) (i r : ℕ) → ◌≡◌ {A = Decoded} (Refused f i) (Refused g r) → i ≡ r
-refused_number f g i r e = cc
+-- the record that a refusal names
+record_of : Decoded → ℕ
+record_of (Ok _) = 0
+record_of (Err r) = r.«record»
 
-refused_sound : (f : Fault) (i : ℕ) (z : Sizes) → Sound z ≡ Refused f i → ⊥
+refused_number : (f g : Fault) (i r : ℕ) → ◌≡◌ {A = Decoded} (refused f i) (refused g r) → i ≡ r
+unfolding record_of
+refused_number f g i r e = ap record_of e
+
+refused_sound : (f : Fault) (i : ℕ) (z : Sizes) → ◌≡◌ {A = Decoded} (Ok z) (refused f i) → ⊥
 refused_sound f i z e = let q : ◌≡◌ {A = ℕ} 0 1 = cc in omega arith
 
 -- the first fault of n records from record i on is in one of them
 fault_number : (t : ℕ) (z : Sizes) (l : List (List ℕ)) (i n : ℕ) (m : List (List ℕ)) (f : Fault) (r : ℕ)
-    → first_fault t z l i n m ≡ Refused f r → r < i + n
+    → first_fault t z l i n m ≡ refused f r → r < i + n
 unfolding first_fault
 fault_number t z l i zero m f r e = absurd (refused_sound f r z e)
 fault_number t z l i (suc n) m f r e = go (check t z l (place_of z i) (get_or m 0 [])) e (fault_number t z l (i + 1) n (drop 1 m) f r)
@@ -155,17 +158,17 @@ fault_number t z l i (suc n) m f r e = go (check t z l (place_of z i) (get_or m 
     rest : Decoded
     rest = first_fault t z l (i + 1) n (drop 1 m)
 
-    go : (c : Checked) → Decode.unless_faulty c i rest ≡ Refused f r → (rest ≡ Refused f r → r < i + 1 + n) → r < i + suc n
-    go Passed e h = let b = h e in omega arith
-    go (Faulty g) e h = let q = refused_number g f i r e in omega arith
+    go : (c : Checked) → Decode.unless_faulty c i rest ≡ refused f r → (rest ≡ refused f r → r < i + 1 + n) → r < i + suc n
+    go (Ok _) e h = let b = h e in omega arith
+    go (Err g) e h = let q = refused_number g f i r e in omega arith
 
 -- no record that a refusal names has a higher number
 abbrev pub last_named : ℕ
 last_named = 3 + Limits.records + Limits.threads + Limits.lines + Limits.claims
 
 module _ (s : List ℕ) (f : Fault) (r : ℕ) where
-  bodies_number : (a t n m : ℕ) → whole_image s ≡ Framing.Sound a t n m → a ≤ Limits.records
-      → behind_frames (bodies s) (Framing.Sound a t n m) ≡ Refused f r → r ≤ last_named
+  bodies_number : (a t n m : ℕ) → whole_image s ≡ sound a t n m → a ≤ Limits.records
+      → behind_frames (bodies s) (sound a t n m) ≡ refused f r → r ≤ last_named
   unfolding first_fault check place_of record_count sizes_of
   bodies_number a t n m w few e = go (header t head) refl (rw q at e)
     where
@@ -181,19 +184,19 @@ module _ (s : List ℕ) (f : Fault) (r : ℕ) where
       q : 3 + a + get_or head 0 0 + n + m ≡ suc later
       q = omega arith
 
-      go : (c : Checked) → header t head ≡ c → Decode.unless_faulty c 1 (first_fault t z (bodies s) 2 later (drop 1 (bodies s))) ≡ Refused f r
+      go : (c : Checked) → header t head ≡ c → Decode.unless_faulty c 1 (first_fault t z (bodies s) 2 later (drop 1 (bodies s))) ≡ refused f r
           → r ≤ last_named
-      go Passed h d =
+      go (Ok _) h d =
           let b = fault_number t z (bodies s) 2 later (drop 1 (bodies s)) f r d in
           let few_threads = header_threads t head h in
           let counts = counts_few s a t n m w in
           omega (arith, counts.lines, counts.claims)
-      go (Faulty g) h d = let p = refused_number g f 1 r d in omega arith
+      go (Err g) h d = let p = refused_number g f 1 r d in omega arith
 
-  pub refused_within : decoded s ≡ Refused f r → r ≤ last_named
+  pub refused_within : decoded s ≡ refused f r → r ≤ last_named
   unfolding decoded
   refused_within e = go (whole_image s) refl (whole_within s) e
     where
-      go : (w : Framing) → whole_image s ≡ w → Within w → behind_frames (bodies s) w ≡ Refused f r → r ≤ last_named
-      go (Framing.Refused g i) q b d = let p = refused_number g f i r d in omega arith
-      go (Framing.Sound a t n m) q b d = bodies_number a t n m q b d
+      go : (w : Framing) → whole_image s ≡ w → Within w → behind_frames (bodies s) w ≡ refused f r → r ≤ last_named
+      go (Err p) q b d = let e = refused_number p.fault f p.«record» r d in omega arith
+      go (Ok n) q b d = bodies_number n.formulas n.threads n.lines n.claims q b d

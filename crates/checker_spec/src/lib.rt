@@ -1,4 +1,3 @@
-// The verdict on an image and the promise of the checker (specs/), what follows from them (proofs/), and acceptance as a type.
 #![tactic(auto)]
 
-pub mod acceptance;
+// The verdict on an image, its acceptance and the promise of the checker, and what follows from them. Definitions and proofs only.

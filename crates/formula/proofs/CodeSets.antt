@@ -10,6 +10,7 @@ use Rattle.semantics.specs.Code.{Code, byte}
 use Rattle.logic.specs.Rows.{all_below}
 use Rattle.logic.proofs.Rows.{all_below_at}
 use Rattle.formula.specs.Codes.{among, member, value, test, interval, assertion, reg_value, reg_test, codes_at, set_of, set_at, fits_at, operand_codes, one_part, two_parts, lower_parts, has_operand, part_count, part_place}
+use Rattle.limits.proofs.BranchTests.{tests}
 
 abbrev pub agree : Bool → Bool → Bool
 agree true b = b
@@ -151,3 +152,6 @@ module _ (p : ℕ) where
 pub ruleset codes_at_branches = (set_value, set_test, set_interval, set_assertion, set_reg_value, set_reg_test, set_none)
 
 pub ruleset code_branches = (operand-codes, parts_two, parts_one, parts_none, fits_code, place_bottom, place_lower, place_own, place_holds)
+
+-- what the functions on codes are proved by
+pub ruleset code_ways = (code_branches, codes_at_branches, tests)

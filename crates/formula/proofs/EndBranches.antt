@@ -7,7 +7,7 @@ use borrow.Author.Tests.{lt-ltb}
 use Rattle.formula.specs.Tree.{node_at, parse_tree}
 use Rattle.formula.specs.declared.node.Node.{Node}
 use Rattle.formula.proofs.NodeBranches.{parse_zero, parse_step}
-use Rattle.limits.proofs.BranchTests.{lower}
+use Rattle.limits.proofs.BranchTests.{lower, tests}
 
 pub end_zero : (s : List ℕ) (at k : ℕ) → k ≡ 0 → at ≡ (parse_tree s k at).end
 end_zero s at k e = rw (parse_zero s k at e)
@@ -27,3 +27,6 @@ module _ (s : List ℕ) (at k : ℕ) (x : Node) (z : k ≡ 0 → ⊥) (e : x ≡
         rw (parse_step s k at z, ← e, lt-ltb _ _ t₀, lt-ltb _ _ t₁, ← f) g
 
 pub ruleset end_at_branches = (end_zero, end_leaf, end_one, end_two, lower)
+
+-- what the end of a formula is proved by
+pub ruleset end_ways = (end_at_branches, tests)

@@ -2,3 +2,4 @@ pub mod CodeSets
 pub mod NodeBranches
 pub mod ReaderBranches
 pub mod EndBranches
+pub mod FaultNumbers

@@ -10,6 +10,7 @@ use borrow.Author.Tests.{lt-ltb, le-ltb}
 use Rattle.formula.specs.Codes.{has_operand, part_count}
 use Rattle.formula.specs.Tree.{Tree, node_at, parse_tree, grow}
 use Rattle.formula.specs.declared.node.Node.{Node}
+use Rattle.limits.proofs.BranchTests.{tests}
 
 pub node_past : (s : List ℕ) (at : ℕ) → length s ≤ at → record { code = 0; operand = 0; parts = 0; next = at } ≡ node_at s at
 unfolding node_at
@@ -53,3 +54,6 @@ parts_of s at = go (ltb at (length s)) (has_operand (get_or s at 0))
     go true true = refl
     go true false = refl
     go false b = refl
+
+-- what the function on nodes is proved by
+pub ruleset node_ways = (node_at_branches, tests)

@@ -11,12 +11,14 @@ use borrow.Author.Tests.{lt-ltb, le-ltb, eq-eqb, ne_eqb, eqb-true, ltb-true}
 use Rattle.limits.specs.Limits.{nesting}
 use Rattle.formula.specs.Codes.{fits_at, has_operand, part_count, part_place}
 use Rattle.formula.specs.Tree.{node_at, parse_tree}
-use Rattle.formula.specs.Reader.{range, malformed, limit, answer, in_range, operand_fault, operand_answer, head_fault, head_answer, first, part_fault, fault_at, read_answer, sort_from, reading_from}
+use Rattle.formula.specs.Reader.{range, malformed, limit, answer, in_range, operand_fault, operand_answer, head_fault, head_answer, first, part_fault, fault_at, read_answer, sort_from, fault_named, reading_from}
 use Rattle.formula.specs.declared.node.Node.{Node}
 use Rattle.formula.specs.declared.reader.Counts.{Counts}
-use Rattle.formula.specs.declared.reader.Reading.TheVariants.{Formula, Fault}
+use Rattle.std.specs.Prelude.{Ok, Err}
+use Rattle.formula.specs.declared.reader.Fault.{Fault}
+use Rattle.formula.specs.declared.reader.Fault.TheVariants.{Malformed}
 use Rattle.formula.proofs.NodeBranches.{parse_step}
-use Rattle.limits.proofs.BranchTests.{lower}
+use Rattle.limits.proofs.BranchTests.{lower, tests}
 
 module _ (s : List ℕ) (n : Counts) (c at : ℕ) where
   pub operand_past : length s ≤ at → malformed ≡ operand_answer s n c at
@@ -241,7 +243,7 @@ module _ (s : List ℕ) (n : Counts) (k p at : ℕ) where
 pub ruleset read_at_branches = (read_zero, read_head, read_inside, read_leaf, read_part, read_one, read_two, lower)
 
 -- a body from a position on
-pub body_past : (s : List ℕ) (n : Counts) (at : ℕ) → length s ≤ at → Fault malformed ≡ reading_from s n at
+pub body_past : (s : List ℕ) (n : Counts) (at : ℕ) → length s ≤ at → Err Malformed ≡ reading_from s n at
 unfolding head_fault
 body_past s n at h = rw (fault_step s n nesting (sort_from s at) at (λ (e : 16 ≡ 0). omega arith), le-ltb _ _ h)
 
@@ -252,19 +254,22 @@ module _ (s : List ℕ) (n : Counts) (at e : ℕ) (is : e ≡ read_answer s n ne
   abbrev end : ℕ
   end = (parse_tree s nesting at).end
 
-  pub body_fault : e < limit → Fault e ≡ reading_from s n at
+  pub body_fault : (f : Fault) → e < limit → f ≡ fault_named e → Err f ≡ reading_from s n at
   unfolding read_answer
-  body_fault l = let q = said_fault e fault end (fault_small s n nesting (sort_from s at) at) is l in rw (q.1, q.0)
+  body_fault f l d = let q = said_fault e fault end (fault_small s n nesting (sort_from s at) at) is l in rw (q.1, q.0, d)
 
   module _ (l : limit ≤ e) where
     ended : (fault ≡ 0) × (e - limit ≡ end)
     unfolding read_answer
     ended = said_end e fault end (fault_small s n nesting (sort_from s at) at) is l
 
-    pub body_formula : e - limit ≡ length s → Formula (sort_from s at) ≡ reading_from s n at
+    pub body_formula : e - limit ≡ length s → Ok (sort_from s at) ≡ reading_from s n at
     body_formula d = rw (ended.0, eq-eqb _ _ (sym ended.1 ∙ d))
 
-    pub body_over : (e - limit ≡ length s → ⊥) → Fault malformed ≡ reading_from s n at
+    pub body_over : (e - limit ≡ length s → ⊥) → Err Malformed ≡ reading_from s n at
     body_over d = rw (ended.0, ne_eqb _ _ (λ (z : end ≡ length s). d (ended.1 ∙ z)))
 
 pub ruleset read_record_branches = (body_past, body_fault, body_formula, body_over)
+
+-- what the reader is proved by
+pub ruleset reader_ways = (reader_branches, read_at_branches, read_record_branches, tests)

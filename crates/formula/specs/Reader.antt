@@ -1,13 +1,13 @@
 -- The first fault of a formula from the left, 0 for none. Its tree and its end are those of `parseTree`.
-use Rattle.std.specs.Prelude.{ℕ, zero, suc, ◌+◌, ◌/◌, List, Bool, true, false, cond, length, get_or, ltb, leb, eqb}
+use Rattle.std.specs.Prelude.{ℕ, zero, suc, ◌+◌, ◌/◌, List, Bool, true, false, cond, length, get_or, ltb, leb, eqb, Result, Ok, Err}
 use Rattle.semantics.specs.Code
 use Rattle.semantics.specs.Code.{byte}
 use Rattle.limits.specs.Limits.{nesting}
 use Rattle.formula.specs.Codes.{fits_at, has_operand, part_place}
 use Rattle.formula.specs.Tree.{node_at, parse_tree}
 use Rattle.formula.specs.declared.reader.Counts.{Counts}
-use Rattle.formula.specs.declared.reader.Reading.{Reading}
-use Rattle.formula.specs.declared.reader.Reading.TheVariants.{Formula, Fault}
+use Rattle.formula.specs.declared.reader.Fault.{Fault}
+use Rattle.formula.specs.declared.reader.Fault.TheVariants.{Range, Malformed}
 
 -- code 6, a number outside its range
 abbrev pub range : ℕ
@@ -16,6 +16,15 @@ range = 6
 -- code 7, "code unknown or unfit at its place, nesting, cut short, left over"
 abbrev pub malformed : ℕ
 malformed = 7
+
+-- the code of a fault
+abbrev pub number_of : Fault → ℕ
+number_of Range = range
+number_of Malformed = malformed
+
+-- the fault of a code
+abbrev pub fault_named : ℕ → Fault
+fault_named c = cond (eqb c range) Range Malformed
 
 -- a result is a fault, or a position plus 8
 abbrev pub limit : ℕ
@@ -78,16 +87,16 @@ abbrev pub sort_from : List ℕ → ℕ → ℕ
 sort_from s at = get_or s at 0 / 8
 
 -- a body from a position on: the sort of its first code, or its first fault; bytes left over come last
-abbrev pub reading_from : List ℕ → Counts → ℕ → Reading
+abbrev pub reading_from : List ℕ → Counts → ℕ → Result ℕ Fault
 reading_from s n at =
     cond (eqb (fault_at s n nesting (sort_from s at) at) 0)
-    (cond (eqb (parse_tree s nesting at).end (length s)) (Formula (sort_from s at)) (Fault malformed))
-    (Fault (fault_at s n nesting (sort_from s at) at))
+    (cond (eqb (parse_tree s nesting at).end (length s)) (Ok (sort_from s at)) (Err Malformed))
+    (Err (fault_named (fault_at s n nesting (sort_from s at) at)))
 
 -- the sort of the formula that a body is
 abbrev pub sort_of : List ℕ → ℕ
 sort_of s = sort_from s 0
 
 -- a whole body
-unfoldable pub reading_of : List ℕ → Counts → Reading
+unfoldable pub reading_of : List ℕ → Counts → Result ℕ Fault
 reading_of s n = reading_from s n 0

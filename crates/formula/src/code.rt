@@ -1,8 +1,10 @@
 // Formula codes, and what a code alone determines: where it fits, its operand, its parts. A set of codes is a number with a bit for each.
+#![tactic(auto, using(crate::proofs::CodeSets::code_ways))]
+
 ghost use Rattle.std.specs.Prelude.{◌≡◌};
 ghost use Rattle.formula.specs.Codes.{member, set_at, fits_at, has_operand, part_count, part_place};
 
-// The code of each formula: the first byte of its node.
+// The code of each formula: the first byte of its node. The codes are bytes of the image and bits of sets, so they are no enum.
 #[derive(Drop)]
 pub struct Code {}
 
@@ -60,6 +62,7 @@ impl Code {
 }
 
 // What may be used at a place: a formula of a sort, or one over registers alone, as under `holds`.
+// A body's place is its first code divided by 8, whatever that byte is, so places are numbers.
 #[derive(Drop)]
 pub struct Place {}
 
@@ -142,6 +145,7 @@ impl Codes {
 }
 
 // Whether `code` is in the set. No set has a code of 32 or more.
+#[tactic(auto, using(limits::proofs::BranchTests::tests), unfolding(crate::specs::Codes::member))]
 pub fn contains(set: u32, code: u8) -> bool
     ensures { result ≡ member set code }
 {

@@ -2,7 +2,7 @@
 ghost use Rattle.std.specs.Prelude.{◌≡◌};
 ghost use Rattle.formula.specs.Reader.{reading_from};
 
-use crate::reader::{Counts, Reading, read_record};
+use crate::reader::{Counts, Fault, read_record};
 
 // A part of the image, borrowed, and a position in it.
 #[derive(Clone, Copy)]
@@ -20,7 +20,7 @@ impl<'a> Cursor<'a> {
     }
 
     // Reads the rest of the record as one formula.
-    pub fn formula(self, counts: Counts) -> Reading
+    pub fn formula(self, counts: Counts) -> Result<u8, Fault>
         ensures { result ≡ reading_from self.entry.src.now counts self.entry.at }
     {
         read_record(self.src, self.at, counts)

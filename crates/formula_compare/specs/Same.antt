@@ -1,11 +1,9 @@
 -- Equality of two trees.
-use Rattle.std.specs.Prelude.{ℕ, List, Bool, true, false, cond, ◌&&◌, eqb}
+use Rattle.std.specs.Prelude.{ℕ, List, Bool, true, false, cond, ◌&&◌, eqb, Option, Some, None}
 use Rattle.formula.specs.Tree.{Tree, none, node, ParsedTree, node_at}
 use Rattle.formula.specs.declared.node.Node.{Node}
 use Rattle.formula_compare.specs.declared.same.Pair.{Pair}
 use Rattle.formula_compare.specs.declared.same.Pair.TheVariants.{Differ, Ended, One, Two}
-use Rattle.formula_compare.specs.declared.same.Same.{Same}
-use Rattle.formula_compare.specs.declared.same.Same.TheVariants.{Yes, No}
 
 -- the trees are equal: "formulas compared by bytes"
 unfoldable pub same_tree : Tree → Tree → Bool
@@ -14,9 +12,9 @@ same_tree none (node d p m s) = false
 same_tree (node c o l r) none = false
 same_tree (node c o l r) (node d p m s) = eqb c d && (eqb o p && (same_tree l m && same_tree r s))
 
--- whether two trees are equal, and the positions past them
-abbrev pub same_of : ParsedTree → ParsedTree → Same
-same_of u v = cond (same_tree u.tree v.tree) (Yes u.end v.end) No
+-- the positions past two trees, if they are equal
+abbrev pub same_of : ParsedTree → ParsedTree → Option (ℕ × ℕ)
+same_of u v = cond (same_tree u.tree v.tree) (Some (u.end, v.end)) None
 
 -- two nodes compared
 unfoldable pub pair_of : Node → Node → Pair

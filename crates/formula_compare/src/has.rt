@@ -17,16 +17,16 @@ impl Roles {
         + (1 << Code::ONE);
 }
 
+// `at` and `left` are handed on to a recursion that takes them apart, so no struct holds them here.
 // Whether register `number` occurs in the formula at `at`.
 pub fn has_register(image: &[u8], at: usize, left: usize, number: u8) -> bool
     ensures { result ≡ occurs (register number) [] (parse_tree image.now left at).tree }
 {
     let query = Query {
         codes: 1 << Code::REG,
-        operand: Operand::EQUAL,
-        number,
+        operand: Operand::Equal(number),
     };
-    occurs_at(image, at, left, query, &image[0..0])
+    occurs_at(image, at, left, &query, &image[0..0])
 }
 
 // Whether word `number` occurs in the formula at `at` in any role: its value, a flag, or one(x).
@@ -35,10 +35,9 @@ pub fn has_word(image: &[u8], at: usize, left: usize, number: u8) -> bool
 {
     let query = Query {
         codes: Roles::WORD,
-        operand: Operand::EQUAL,
-        number,
+        operand: Operand::Equal(number),
     };
-    occurs_at(image, at, left, query, &image[0..0])
+    occurs_at(image, at, left, &query, &image[0..0])
 }
 
 // Whether a flag of word `number`, unsync or cov, occurs in the formula at `at`.
@@ -47,10 +46,9 @@ pub fn has_flag(image: &[u8], at: usize, left: usize, number: u8) -> bool
 {
     let query = Query {
         codes: (1 << Code::UNSYNC) + (1 << Code::COV),
-        operand: Operand::EQUAL,
-        number,
+        operand: Operand::Equal(number),
     };
-    occurs_at(image, at, left, query, &image[0..0])
+    occurs_at(image, at, left, &query, &image[0..0])
 }
 
 // Whether start occurs in the formula at `at`.
@@ -59,10 +57,9 @@ pub fn has_start(image: &[u8], at: usize, left: usize) -> bool
 {
     let query = Query {
         codes: 1 << Code::START,
-        operand: Operand::ANY,
-        number: 0,
+        operand: Operand::Any,
     };
-    occurs_at(image, at, left, query, &image[0..0])
+    occurs_at(image, at, left, &query, &image[0..0])
 }
 
 // Whether any word occurs in the formula at `at`, in any role.
@@ -71,10 +68,9 @@ pub fn has_shared(image: &[u8], at: usize, left: usize) -> bool
 {
     let query = Query {
         codes: Roles::WORD,
-        operand: Operand::ANY,
-        number: 0,
+        operand: Operand::Any,
     };
-    occurs_at(image, at, left, query, &image[0..0])
+    occurs_at(image, at, left, &query, &image[0..0])
 }
 
 // Whether a register that `thread` does not own occurs in the formula at `at`; `owners` has the owner of each register.
@@ -83,8 +79,7 @@ pub fn has_foreign(image: &[u8], at: usize, left: usize, thread: u8, owners: &[u
 {
     let query = Query {
         codes: 1 << Code::REG,
-        operand: Operand::FOREIGN,
-        number: thread,
+        operand: Operand::Foreign(thread),
     };
-    occurs_at(image, at, left, query, owners)
+    occurs_at(image, at, left, &query, owners)
 }

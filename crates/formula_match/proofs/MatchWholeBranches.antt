@@ -2,40 +2,46 @@
 use Prim.Native.Nat.{ℕ, ◌-◌}
 use mathlib.Core.Path.{◌≡◌, refl, ap, ◌∙◌}
 use mathlib.Core.List.{List}
-use mathlib.Core.Bool.{Bool, true, false}
-use lib.Dec.{eqb, ltb}
-use borrow.Author.Tests.{eqb-true, eqb-false}
+use Rattle.std.specs.Prelude.{Option, Some, None}
 use Rattle.formula.specs.Tree.{parse_tree}
 use Rattle.formula_match.specs.MatchPlaces.{root_at, match_at, whole_of, whole_at}
 use Rattle.formula_match.specs.declared.bind.Bind.{Bind}
+use Rattle.formula_match.specs.declared.bind.Rest.TheVariants.{Nothing, One, Two, Taken}
 use Rattle.formula_match.specs.declared.bind.Root.{Root}
 use Rattle.formula_match.specs.declared.matching.Match.{Match}
 use Rattle.formula_match.specs.declared.matching_whole.Whole.{Whole}
-use Rattle.formula_match.proofs.MatchBranches.{match_one, match_first_no, match_two, match_open, match_root, parting}
+use Rattle.formula_match.proofs.MatchBranches.{match_no, match_ended, match_open, match_one, match_first_no, match_two, parting}
+use Rattle.limits.proofs.BranchTests.{tests}
 
-module _ (s t : List ℕ) (i at k : ℕ) (b : Bind) (r : Root) (e : r ≡ root_at s t i at k b) where
-  pub whole_one : (w : Whole) → r.kind ≡ 2 → w ≡ whole_at s t (k - 1) r.tpl r.next r.bind → w ≡ whole_at s t k i at b
+module _ (s t : List ℕ) (i at k : ℕ) (b : Bind) (o : Option Root) (e : o ≡ root_at s t i at k b) where
+  pub whole_no : o ≡ None → None ≡ whole_at s t k i at b
   unfolding whole_at
-  whole_one w q d = d ∙ ap whole_of (match_one s t i at k b r e (match_at s t (k - 1) r.tpl r.next r.bind) q refl)
+  whole_no f = ap whole_of (match_no s t i at k b o e f)
 
-  module _ (n₂ : r.kind ≡ 2 → ⊥) where
-    module _ (m : Match) (q : r.kind ≡ 3) (em : m ≡ match_at s t (k - 1) r.tpl r.next r.bind) where
-      pub whole_first_no : m.ok ≡ false → record { ok = false; tpl = m.tpl; bind = m.bind } ≡ whole_at s t k i at b
-      unfolding whole_at
-      whole_first_no o = (rw o) ∙ ap whole_of (match_first_no s t i at k b r e n₂ m q em o)
-
-      pub whole_two : (w : Whole) → m.ok ≡ true → w ≡ whole_at s t (k - 1) m.tpl m.next m.bind → w ≡ whole_at s t k i at b
-      unfolding whole_at
-      whole_two w o d = d ∙ ap whole_of (match_two s t i at k b r e n₂ m q em (match_at s t (k - 1) m.tpl m.next m.bind) o refl)
-
-    pub whole_root : (r.kind ≡ 3 → ⊥) → record { ok = ltb 0 r.kind; tpl = r.tpl; bind = r.bind } ≡ whole_at s t k i at b
+  module _ (r : Root) (f : o ≡ Some r) where
+    pub whole_ended : (next : ℕ) → r.rest ≡ Nothing next → Some (record { tpl = r.tpl; bind = r.bind }) ≡ whole_at s t k i at b
     unfolding whole_at
-    whole_root n₃ = go (eqb r.kind 4) refl
-      where
-        go : (x : Bool) → eqb r.kind 4 ≡ x → record { ok = ltb 0 r.kind; tpl = r.tpl; bind = r.bind } ≡ whole_of
-            (match_at s t k i at b)
-        go true d = let q : r.kind ≡ 4 = eqb-true r.kind 4 d in
-            (rw q) ∙ ap whole_of (match_open s t i at k b r e n₂ n₃ (parse_tree s k at).end q refl)
-        go false d = ap whole_of (match_root s t i at k b r e n₂ n₃ (eqb-false r.kind 4 d))
+    whole_ended next q = ap whole_of (match_ended s t i at k b o e r f next q)
 
-pub ruleset match_whole_branches = (whole_one, whole_first_no, whole_two, whole_root, parting)
+    pub whole_open : r.rest ≡ Taken → Some (record { tpl = r.tpl; bind = r.bind }) ≡ whole_at s t k i at b
+    unfolding whole_at
+    whole_open q = ap whole_of (match_open s t i at k b o e r f (parse_tree s k at).end q refl)
+
+    pub whole_one : (next : ℕ) (w : Option Whole) → r.rest ≡ One next → w ≡ whole_at s t (k - 1) r.tpl next r.bind → w ≡ whole_at s t k i at b
+    unfolding whole_at
+    whole_one next w q d = d ∙ ap whole_of (match_one s t i at k b o e r f next (match_at s t (k - 1) r.tpl next r.bind) q refl)
+
+    module _ (next : ℕ) (m : Option Match) (q : r.rest ≡ Two next) (em : m ≡ match_at s t (k - 1) r.tpl next r.bind) where
+      pub whole_first_no : m ≡ None → None ≡ whole_at s t k i at b
+      unfolding whole_at
+      whole_first_no g = ap whole_of (match_first_no s t i at k b o e r f next m q em g)
+
+      pub whole_two : (x : Match) (w : Option Whole) → m ≡ Some x → w ≡ whole_at s t (k - 1) x.tpl x.next x.bind → w ≡ whole_at s t k i at b
+      unfolding whole_at
+      whole_two x w g d =
+          d ∙ ap whole_of (match_two s t i at k b o e r f next m q em x (match_at s t (k - 1) x.tpl x.next x.bind) g refl)
+
+pub ruleset match_whole_branches = (whole_no, whole_ended, whole_open, whole_one, whole_first_no, whole_two, parting)
+
+-- what the matcher without the end is proved by
+pub ruleset whole_ways = (match_whole_branches, tests)

@@ -5,6 +5,9 @@ use mathlib.Core.List.{List, [], ◌∷◌}
 use mathlib.Core.Logic.{◌≢◌}
 use mathlib.Core.Bool.{Bool, true, false, ◌&&◌, cond, true≢false}
 use mathlib.Core.Option.{Option, none, some}
+use Rattle.std.specs.Prelude.{Some, None, option_map}
+use Rattle.std.specs.Prelude as Std
+use Rattle.std.proofs.lemmas.Option.{same_Some, none-some}
 use native.Mathlib.Omega.{arith}
 use lib.ListN.{length, get_or, set, length-set}
 use lib.Seq.{get_or-set_same, get_or-set_other}
@@ -22,9 +25,8 @@ use Rattle.formula_trees.proofs.TreeAgree.{tree_refl}
 use Rattle.formula_match.specs.Template.{first_hole, first_number}
 use Rattle.formula_match.specs.Match as Trees
 use Rattle.formula_match.specs.Match.{and_then, when, take_tree, take_num, take_operand, is_node, match_t}
-use Rattle.formula_match.specs.MatchPlaces.{hole_count, refused, opened, held_at, is_there, hole_at, operand_of, rooted, node_of, root_at, grown, match_at, taken_of, proper}
+use Rattle.formula_match.specs.MatchPlaces.{hole_count, opened, held_at, is_there, hole_at, kept, operand_of, rooted, node_of, root_at, grown, match_at, taken_of, proper}
 use Rattle.formula_match.specs.declared.bind.Bind.{Bind}
-use Rattle.formula_match.specs.declared.bind.Taken.{Taken}
 use Rattle.formula_match.specs.declared.matching.Match.{Match}
 use Rattle.formula_match.proofs.MatchBranches.{part_small}
 
@@ -73,30 +75,30 @@ module _ (s : List ℕ) (b : Bind) (z : Sized b) where
           ∙ sym (upd_other (λ (i : ℕ). value (get_or b.left i 0) (get_or b.at i 0)) j (some (parse_tree s k at).tree) i q)))
 
 -- what is taken, if it is
-abbrev pub given : List ℕ → Bool → Bind → Option Trees.Taken
-given s ok b = cond ok (some (taken_of s b)) none
+abbrev pub given : List ℕ → Std.Option Bind → Option Trees.Taken
+given s None = none
+given s (Some b) = some (taken_of s b)
 
-pub when_given : (s : List ℕ) (x : Bool) (b : Bind) → when x (taken_of s b) ≡ given s x b
+pub when_given : (s : List ℕ) (x : Bool) (b : Bind) → when x (taken_of s b) ≡ given s (kept x b)
 when_given s true b = refl
 when_given s false b = refl
 
 -- an operand: by what the tests show
-abbrev taking : Bind → ℕ → ℕ → Bool → Bool → Bool → Taken
+abbrev taking : Bind → ℕ → ℕ → Bool → Bool → Bool → Std.Option Bind
 taking b o n i j e =
     cond i
     (cond j
-    (cond e (record { ok = true; bind = record { at = b.at; left = b.left; num = set b.num o (n + 1) } })
-    (record { ok = eqb (get_or b.num o 0) (n + 1); bind = b }))
-    (record { ok = false; bind = b }))
-    (record { ok = eqb (o - first_number) n; bind = b })
+    (cond e (Some (record { at = b.at; left = b.left; num = set b.num o (n + 1) })) (kept (eqb (get_or b.num o 0) (n + 1)) b))
+    None)
+    (kept (eqb (o - first_number) n) b)
 
 operand_follows : (s : List ℕ) (b : Bind) → Sized b → (d o n : ℕ) → has_operand d ≡ true
     → T (cond (ltb o first_number) (ltb o hole_count) true)
-    → take_operand d o n (taken_of s b) ≡ given s (operand_of o n b).ok (operand_of o n b).bind
+    → take_operand d o n (taken_of s b) ≡ given s (operand_of o n b)
 unfolding operand_of
 operand_follows s b z d o n h p = go (has_operand d) (ltb o first_number) (ltb o hole_count) (eqb (get_or b.num o 0) 0) h refl refl refl p
   where
-    took : (m : ℕ) → get_or b.num o 0 ≡ m → m ≢ 0 → when (eqb (m - 1) n) (taken_of s b) ≡ given s (eqb m (n + 1)) b
+    took : (m : ℕ) → get_or b.num o 0 ≡ m → m ≢ 0 → when (eqb (m - 1) n) (taken_of s b) ≡ given s (kept (eqb m (n + 1)) b)
     took m e q = (λ i. when (same m q i) (taken_of s b)) ∙ when_given s (eqb m (n + 1)) b
       where
         same : (m : ℕ) → m ≢ 0 → eqb (m - 1) n ≡ eqb m (n + 1)
@@ -116,7 +118,7 @@ operand_follows s b z d o n h p = go (has_operand d) (ltb o first_number) (ltb o
                 (taken_of s b)
           ]
         ])
-        (given s (taking b o n i j e).ok (taking b o n i j e).bind)
+        (given s (taking b o n i j e))
     go false i j e h q r w p = let y : ◌≡◌ {A = ℕ} 0 1 = cc in absurd (omega arith)
     go true true true true h q r w p = ap some (sym (num_set s b z o n (ltb-true o hole_count r)))
     go true true true false h q r w p = took (get_or b.num o 0) refl (eqb-false (get_or b.num o 0) 0 w)
@@ -135,15 +137,19 @@ operand_none d o n b h e = go (has_operand d) h
     go true h = let y : ◌≡◌ {A = ℕ} 0 1 = cc in absurd (omega arith)
     go false h = rw e
 
-operand_sized : (b : Bind) → Sized b → (o n : ℕ) → Sized (operand_of o n b).bind
+operand_sized : (b : Bind) → Sized b → (o n : ℕ) (b' : Bind) → operand_of o n b ≡ Some b' → Sized b'
 unfolding operand_of
-operand_sized b z o n = go (ltb o first_number) (ltb o hole_count) (eqb (get_or b.num o 0) 0)
+operand_sized b z o n b' h = go (ltb o first_number) (ltb o hole_count) (eqb (get_or b.num o 0) 0) h
   where
-    go : (i j e : Bool) → Sized (taking b o n i j e).bind
-    go true true true = record { at = z.at; left = z.left; num = length-set b.num o (n + 1) ∙ z.num }
-    go true true false = z
-    go true false e = z
-    go false j e = z
+    held : (x : Bool) → kept x b ≡ Some b' → Sized b'
+    held true e = subst Sized (same_Some b b' e) z
+    held false e = absurd (none-some b' e)
+
+    go : (i j e : Bool) → taking b o n i j e ≡ Some b' → Sized b'
+    go true true true e = subst Sized (same_Some _ b' e) (record { at = z.at; left = z.left; num = length-set b.num o (n + 1) ∙ z.num })
+    go true true false e = held (eqb (get_or b.num o 0) (n + 1)) e
+    go true false x e = absurd (none-some b' e)
+    go false j x e = held (eqb (o - first_number) n) e
 
 abbrev small : List Code → Bool
 small [] = true
@@ -182,12 +188,20 @@ no_operand s at = go (ltb at (length s)) (has_operand (get_or s at 0)) refl
     go true false e h = refl
     go false b e h = refl
 
--- what the matcher gives by positions, as it is on trees; and where it stops
-pub record Follows (s t : List ℕ) (k i at : ℕ) (b : Bind) (m : Match) : Type 0 where
-  pub same : match_t (parse_tree t k i).tree (parse_tree s k at).tree (taken_of s b) ≡ given s m.ok m.bind
-  pub tpl : m.ok ≡ true → m.tpl ≡ (parse_tree t k i).end
-  pub next : m.ok ≡ true → m.next ≡ (parse_tree s k at).end
+-- the bindings of a match
+abbrev pub bind_of : Std.Option Match → Std.Option Bind
+bind_of m = option_map (λ (x : Match). x.bind) m
+
+-- where a match stops, and the holes' tables have their size
+pub record Stops (e d : ℕ) (m : Match) : Type 0 where
+  pub tpl : m.tpl ≡ e
+  pub next : m.next ≡ d
   pub sized : Sized m.bind
+
+-- what the matcher gives by positions, as it is on trees; and where it stops
+pub record Follows (s t : List ℕ) (k i at : ℕ) (b : Bind) (m : Std.Option Match) : Type 0 where
+  pub same : match_t (parse_tree t k i).tree (parse_tree s k at).tree (taken_of s b) ≡ given s (bind_of m)
+  pub stops : (x : Match) → m ≡ Some x → Stops (parse_tree t k i).end (parse_tree s k at).end x
 
 match_node : (d o : ℕ) (l r u : Tree) (b : Trees.Taken) → match_t (node d o l r) u b ≡ elim (leb first_hole d) [
   | true ↦ take_tree (d - first_hole) u b (b.tree (d - first_hole))
@@ -250,9 +264,9 @@ module _ (s t : List ℕ) (k i at : ℕ) (b : Bind) (z : Sized b) where
       alike = same_tree (parse_tree s (get_or b.left j₀ 0) (get_or b.at j₀ 0)).tree (parse_tree s (suc k) at).tree
 
       held : (x : Bool) → alike ≡ true → grown (λ i' at' b'. match_at s t k i' at' b') (parse_tree s (suc k) at).end
-          (cond x (opened h₀.next b) (held_at b h₀.next
+          (cond x (Some (opened h₀.next b)) (held_at b h₀.next
           (same_of (parse_tree s (get_or b.left j₀ 0) (get_or b.at j₀ 0)) (parse_tree s (suc k) at))))
-          ≡ record { ok = true; tpl = h₀.next; next = (parse_tree s (suc k) at).end; bind = b }
+          ≡ Some (record { tpl = h₀.next; next = (parse_tree s (suc k) at).end; bind = b })
       held true d = refl
       held false d = rw d
 
@@ -264,36 +278,31 @@ module _ (s t : List ℕ) (k i at : ℕ) (b : Bind) (z : Sized b) where
           → same_tree (parse_tree s (get_or b.left j₀ 0) (get_or b.at j₀ 0)).tree (parse_tree s (suc k) at).tree ≡ q
           → Follows s t (suc k) i at b (match_at s t (suc k) i at b)
       go true e q d =
-          let r : match_at s t (suc k) i at b ≡ record {
-            ok = true;
+          let m : Match = record {
             tpl = h₀.next;
             next = (parse_tree s (suc k) at).end;
             bind = record { at = set b.at j₀ at; left = set b.left j₀ (suc k); num = b.num };
-          } = root ∙ (rw e) in
+          } in
+          let r : match_at s t (suc k) i at b ≡ Some m = root ∙ (rw e) in
           subst (Follows s t (suc k) i at b) (sym r) (record {
             same = taken ∙ (rw e (ap some (sym (tree_set s b z j₀ at (suc k) below (λ (y : suc k ≡ 0). omega arith)))));
-            tpl = λ o. ended;
-            next = λ o. refl;
-            sized = record { at = length-set b.at j₀ at ∙ z.at; left = length-set b.left j₀ (suc k) ∙ z.left; num = z.num };
+            stops = λ x o. subst (Stops _ _) (same_Some m x o) (record {
+              tpl = ended;
+              next = refl;
+              sized = record { at = length-set b.at j₀ at ∙ z.at; left = length-set b.left j₀ (suc k) ∙ z.left; num = z.num };
+            });
           })
       go false e true d =
-          let r : match_at s t (suc k) i at b ≡ record { ok = true; tpl = h₀.next; next = (parse_tree s (suc k) at).end; bind = b } = root
-          ∙ (rw e (held there d)) in
+          let m : Match = record { tpl = h₀.next; next = (parse_tree s (suc k) at).end; bind = b } in
+          let r : match_at s t (suc k) i at b ≡ Some m = root ∙ (rw e (held there d)) in
           subst (Follows s t (suc k) i at b) (sym r) (record {
             same = taken ∙ (rw (e, d));
-            tpl = λ o. ended;
-            next = λ o. refl;
-            sized = z;
+            stops = λ x o. subst (Stops _ _) (same_Some m x o) (record { tpl = ended; next = refl; sized = z });
           })
       go false e false d =
           let n : there ≡ false = elsewhere there refl d in
-          let r : match_at s t (suc k) i at b ≡ record { ok = false; tpl = 0; next = 0; bind = b } = root ∙ (rw (e, n, d)) in
-          subst (Follows s t (suc k) i at b) (sym r) (record {
-            same = taken ∙ (rw (e, d));
-            tpl = λ (o : ◌≡◌ {A = Bool} false true). let y : ◌≡◌ {A = ℕ} 0 1 = cc in absurd (omega arith);
-            next = λ (o : ◌≡◌ {A = Bool} false true). let y : ◌≡◌ {A = ℕ} 0 1 = cc in absurd (omega arith);
-            sized = z;
-          })
+          let r : match_at s t (suc k) i at b ≡ None = root ∙ (rw (e, n, d)) in
+          subst (Follows s t (suc k) i at b) (sym r) (record { same = taken ∙ (rw (e, d)); stops = λ x o. absurd (none-some x o) })
 
 -- the parts of two nodes that are alike
 module _ (s t : List ℕ) (k : ℕ) (ih : (i at : ℕ) (b : Bind) → Sized b → T (proper (parse_tree t k i).tree)
@@ -304,69 +313,53 @@ module _ (s t : List ℕ) (k : ℕ) (ih : (i at : ℕ) (b : Bind) → Sized b �
   abbrev second : List ℕ → Node → ParsedTree
   second l x = part (λ p. parse_tree l k p) (ltb 1 x.parts) (first l x).end
 
-  record PartsFollow (h x : Node) (b : Bind) (m : Match) : Type 0 where
+  record PartsFollow (h x : Node) (b : Bind) (m : Std.Option Match) : Type 0 where
     same : and_then (match_t (first t h).tree (first s x).tree (taken_of s b))
-        (λ b₂. match_t (second t h).tree (second s x).tree b₂) ≡ given s m.ok m.bind
-    tpl : m.ok ≡ true → m.tpl ≡ (second t h).end
-    next : m.ok ≡ true → m.next ≡ (second s x).end
-    sized : Sized m.bind
+        (λ b₂. match_t (second t h).tree (second s x).tree b₂) ≡ given s (bind_of m)
+    stops : (y : Match) → m ≡ Some y → Stops (second t h).end (second s x).end y
 
-  abbrev sub_match : ℕ → ℕ → Bind → Match
+  abbrev sub_match : ℕ → ℕ → Bind → Std.Option Match
   sub_match i at b = match_at s t k i at b
 
   parts_follow : (h x : Node) (b : Bind) → Sized b → (end p : ℕ) → h.parts ≡ p → x.parts ≡ p → p < 3 → T (proper (first t h).tree)
       → T (proper (second t h).tree)
-      → PartsFollow h x b (grown sub_match end (rooted h x b))
-  parts_follow h x b z end zero eh ex l pf ps = record {
-    same = rw (eh, ex, match_none, match_none);
-    tpl = λ o. rw (eh, ex);
-    next = λ o. rw ex;
-    sized = rw ex z;
-  }
+      → PartsFollow h x b (grown sub_match end (Some (rooted h x b)))
+  parts_follow h x b z end zero eh ex l pf ps =
+      let m : Match = record { tpl = h.next; next = x.next; bind = b } in
+      let q : grown sub_match end (Some (rooted h x b)) ≡ Some m = rw ex in
+      subst (PartsFollow h x b) (sym q) (record {
+        same = rw (eh, ex, match_none, match_none);
+        stops = λ y o. subst (Stops _ _) (same_Some m y o) (record { tpl = rw eh; next = rw ex; sized = z });
+      })
   parts_follow h x b z end (suc zero) eh ex l pf ps = go (sub_match h.next x.next b) (ih h.next x.next b z (rw eh at pf)) refl
     where
-      go : (m : Match) → Follows s t k h.next x.next b m → sub_match h.next x.next b ≡ m
-          → PartsFollow h x b (grown sub_match end (rooted h x b))
-      go m f e = let q : grown sub_match end (rooted h x b) ≡ m = rw (ex, e) in subst (PartsFollow h x b) (sym q) (record {
-        same = rw (eh, ex, f.same) (last m.ok);
-        tpl = λ o. f.tpl o ∙ (rw eh);
-        next = λ o. f.next o ∙ (rw ex);
-        sized = f.sized;
+      go : (m : Std.Option Match) → Follows s t k h.next x.next b m → sub_match h.next x.next b ≡ m
+          → PartsFollow h x b (grown sub_match end (Some (rooted h x b)))
+      go m f e = let q : grown sub_match end (Some (rooted h x b)) ≡ m = rw (ex, e) in subst (PartsFollow h x b) (sym q) (record {
+        same = rw (eh, ex, f.same) (last (bind_of m));
+        stops = λ y o. rw (eh, ex) (f.stops y o);
       })
         where
-          last : (o : Bool) → and_then (given s o m.bind) (λ b₂. match_t Tree.none Tree.none b₂) ≡ given s o m.bind
-          last true = match_none (taken_of s m.bind)
-          last false = refl
+          last : (o : Std.Option Bind) → and_then (given s o) (λ b₂. match_t Tree.none Tree.none b₂) ≡ given s o
+          last (Some b₂) = match_none (taken_of s b₂)
+          last None = refl
   parts_follow h x b z end (suc (suc zero)) eh ex l pf ps =
       go (sub_match h.next x.next b) (ih h.next x.next b z (rw eh at pf)) refl
     where
-      two : (m : Match) → Follows s t k h.next x.next b m → sub_match h.next x.next b ≡ m → m.ok ≡ true
-          → PartsFollow h x b (grown sub_match end (rooted h x b))
-      two m f e o =
-          let pr : T (proper (parse_tree t k m.tpl).tree) =
-          subst (λ (n : ℕ). T (proper (parse_tree t k n).tree)) (sym (f.tpl o)) (rw eh at ps) in
-          let g : Follows s t k m.tpl m.next m.bind (sub_match m.tpl m.next m.bind) =
-          ih m.tpl m.next m.bind f.sized pr in
-          let q : grown sub_match end (rooted h x b) ≡ sub_match m.tpl m.next m.bind = rw (ex, e, o) in
+      go : (m : Std.Option Match) → Follows s t k h.next x.next b m → sub_match h.next x.next b ≡ m
+          → PartsFollow h x b (grown sub_match end (Some (rooted h x b)))
+      go (Some m) f e =
+          let y = f.stops m refl in
+          let pr : T (proper (parse_tree t k m.tpl).tree) = subst (λ (n : ℕ). T (proper (parse_tree t k n).tree)) (sym y.tpl) (rw eh at ps) in
+          let g : Follows s t k m.tpl m.next m.bind (sub_match m.tpl m.next m.bind) = ih m.tpl m.next m.bind y.sized pr in
+          let q : grown sub_match end (Some (rooted h x b)) ≡ sub_match m.tpl m.next m.bind = rw (ex, e) in
           subst (PartsFollow h x b) (sym q) (record {
-            same = rw (eh, ex, f.same, o, ← f.tpl o, ← f.next o) g.same;
-            tpl = λ y. rw (eh, ← f.tpl o) (g.tpl y);
-            next = λ y. rw (ex, ← f.next o) (g.next y);
-            sized = g.sized;
+            same = rw (eh, ex, f.same, ← y.tpl, ← y.next) g.same;
+            stops = λ w o. rw (eh, ex, ← y.tpl, ← y.next) (g.stops w o);
           })
-
-      go : (m : Match) → Follows s t k h.next x.next b m → sub_match h.next x.next b ≡ m
-          → PartsFollow h x b (grown sub_match end (rooted h x b))
-      go m f e = split m.ok refl
-        where
-          split : (o : Bool) → m.ok ≡ o → PartsFollow h x b (grown sub_match end (rooted h x b))
-          split true o = two m f e o
-          split false o = let q : grown sub_match end (rooted h x b) ≡ m = rw (ex, e, o) in subst (PartsFollow h x b) (sym q) (record {
-            same = rw (eh, ex, f.same, o);
-            tpl = λ y. let w : ◌≡◌ {A = Bool} true false = sym y ∙ o in let v : ◌≡◌ {A = ℕ} 0 1 = cc in absurd (omega arith);
-            next = λ y. let w : ◌≡◌ {A = Bool} true false = sym y ∙ o in let v : ◌≡◌ {A = ℕ} 0 1 = cc in absurd (omega arith);
-            sized = f.sized;
-          })
+      go None f e =
+          let q : grown sub_match end (Some (rooted h x b)) ≡ None = rw (ex, e) in
+          subst (PartsFollow h x b) (sym q) (record { same = rw (eh, ex, f.same); stops = λ y o. absurd (none-some y o) })
   parts_follow h x b z end (suc (suc (suc p))) eh ex l pf ps = absurd (omega arith)
 
   -- two nodes, the template's no hole
@@ -415,33 +408,23 @@ module _ (s t : List ℕ) (k : ℕ) (ih : (i at : ℕ) (b : Bind) → Sized b �
     unfolding match_at root_at
     by_place = rw (ne_eqb (suc k) 0 not_zero, lt-ltb h.code first_hole low)
 
-    refused_follows : match_t (parse_tree t (suc k) i).tree (parse_tree s (suc k) at).tree (taken_of s b) ≡ none → node_of h x b ≡ refused b
+    refused_follows : match_t (parse_tree t (suc k) i).tree (parse_tree s (suc k) at).tree (taken_of s b) ≡ none → node_of h x b ≡ None
         → Follows s t (suc k) i at b (match_at s t (suc k) i at b)
     refused_follows e d =
-        let q : match_at s t (suc k) i at b ≡ record { ok = false; tpl = 0; next = 0; bind = b } = by_place ∙ (rw d) in
-        subst (Follows s t (suc k) i at b) (sym q) (record {
-          same = e;
-          tpl = λ (o : ◌≡◌ {A = Bool} false true). let y : ◌≡◌ {A = ℕ} 0 1 = cc in absurd (omega arith);
-          next = λ (o : ◌≡◌ {A = Bool} false true). let y : ◌≡◌ {A = ℕ} 0 1 = cc in absurd (omega arith);
-          sized = z;
-        })
+        let q : match_at s t (suc k) i at b ≡ None = by_place ∙ (rw d) in
+        subst (Follows s t (suc k) i at b) (sym q) (record { same = e; stops = λ y o. absurd (none-some y o) })
 
     -- once the operands are taken
-    goes_on : (b'' : Bind) → Sized b'' → h.code ≡ x.code → T (proper left_tpl) → T (proper right_tpl) → node_of h x b ≡ rooted h x b''
+    goes_on : (b'' : Bind) → Sized b'' → h.code ≡ x.code → T (proper left_tpl) → T (proper right_tpl) → node_of h x b ≡ Some (rooted h x b'')
         → match_t (parse_tree t (suc k) i).tree (parse_tree s (suc k) at).tree (taken_of s b) ≡ and_then
         (match_t left_tpl (first s x).tree (taken_of s b'')) (λ b₂. match_t right_tpl (second s x).tree b₂)
         → Follows s t (suc k) i at b (match_at s t (suc k) i at b)
     goes_on b'' z' c pl pr d e =
         let hp : h.parts ≡ x.parts = parts_of t i ∙ ap part_count c ∙ sym (parts_of s at) in
-        let f : PartsFollow h x b'' (grown sub_match end (rooted h x b'')) =
+        let f : PartsFollow h x b'' (grown sub_match end (Some (rooted h x b''))) =
         parts_follow h x b'' z' end x.parts hp refl (part_small s at x refl) pl pr in
-        let q : match_at s t (suc k) i at b ≡ grown sub_match end (rooted h x b'') = by_place ∙ (rw d) in
-        subst (Follows s t (suc k) i at b) (sym q) (record {
-          same = e ∙ f.same;
-          tpl = λ o. f.tpl o ∙ ap (λ (u : ParsedTree). u.end) (sym tpl_tree);
-          next = λ o. f.next o ∙ ap (λ (u : ParsedTree). u.end) (sym its_tree);
-          sized = f.sized;
-        })
+        let q : match_at s t (suc k) i at b ≡ grown sub_match end (Some (rooted h x b'')) = by_place ∙ (rw d) in
+        subst (Follows s t (suc k) i at b) (sym q) (record { same = e ∙ f.same; stops = λ y o. rw (tpl_tree, its_tree) (f.stops y o) })
 
     node_follows : T (proper (parse_tree t (suc k) i).tree) → Follows s t (suc k) i at b (match_at s t (suc k) i at b)
     unfolding node_of
@@ -462,23 +445,20 @@ module _ (s t : List ℕ) (k : ℕ) (ih : (i at : ℕ) (b : Bind) → Sized b �
         right_fine : T (proper right_tpl)
         right_fine = and_right (proper left_tpl) (proper right_tpl) (and_right operand_ok (proper left_tpl && proper right_tpl) fine)
 
-        with_operand : (c : eqb h.code x.code ≡ true) → has_operand h.code ≡ true → (o : Bool)
-            → (operand_of h.operand x.operand b).ok ≡ o → Follows s t (suc k) i at b (match_at s t (suc k) i at b)
+        with_operand : (c : eqb h.code x.code ≡ true) → has_operand h.code ≡ true → (o : Std.Option Bind)
+            → operand_of h.operand x.operand b ≡ o → Follows s t (suc k) i at b (match_at s t (suc k) i at b)
         with_operand c p o e =
-            let w : take_operand h.code h.operand x.operand (taken_of s b) ≡ given s (operand_of h.operand x.operand b).ok
-            (operand_of h.operand x.operand b).bind =
+            let w : take_operand h.code h.operand x.operand (taken_of s b) ≡ given s (operand_of h.operand x.operand b) =
             operand_follows s b z h.code h.operand x.operand p (rw p at operand_fine) in
             settle o e w
           where
-            settle : (o : Bool) → (operand_of h.operand x.operand b).ok ≡ o
-                → take_operand h.code h.operand x.operand (taken_of s b) ≡ given s (operand_of h.operand x.operand b).ok
-                (operand_of h.operand x.operand b).bind
+            settle : (o : Std.Option Bind) → operand_of h.operand x.operand b ≡ o
+                → take_operand h.code h.operand x.operand (taken_of s b) ≡ given s (operand_of h.operand x.operand b)
                 → Follows s t (suc k) i at b (match_at s t (suc k) i at b)
-            settle true e w =
-                goes_on (operand_of h.operand x.operand b).bind (operand_sized b z h.operand x.operand)
-                (eqb-true h.code x.code c) left_fine right_fine (rw (c, p, e))
+            settle (Some b') e w =
+                goes_on b' (operand_sized b z h.operand x.operand b' e) (eqb-true h.code x.code c) left_fine right_fine (rw (c, p, e))
                 (by_tree ∙ (rw (c, w, e)))
-            settle false e w = refused_follows (by_tree ∙ (rw (c, w, e))) (rw (c, p, e))
+            settle None e w = refused_follows (by_tree ∙ (rw (c, w, e))) (rw (c, p, e))
 
         no_operands : (c : eqb h.code x.code ≡ true) → has_operand h.code ≡ false
             → Follows s t (suc k) i at b (match_at s t (suc k) i at b)
@@ -489,7 +469,7 @@ module _ (s t : List ℕ) (k : ℕ) (ih : (i at : ℕ) (b : Bind) → Sized b �
 
         operands : (c : eqb h.code x.code ≡ true) → (p : Bool) → has_operand h.code ≡ p
             → Follows s t (suc k) i at b (match_at s t (suc k) i at b)
-        operands c true p = with_operand c p (operand_of h.operand x.operand b).ok refl
+        operands c true p = with_operand c p (operand_of h.operand x.operand b) refl
         operands c false p = no_operands c p
 
         codes : (c : Bool) → eqb h.code x.code ≡ c → Follows s t (suc k) i at b (match_at s t (suc k) i at b)
@@ -500,12 +480,12 @@ module _ (s t : List ℕ) (k : ℕ) (ih : (i at : ℕ) (b : Bind) → Sized b �
 pub match_follows : (s t : List ℕ) (k i at : ℕ) (b : Bind) → Sized b → T (proper (parse_tree t k i).tree)
     → Follows s t k i at b (match_at s t k i at b)
 unfolding match_at
-match_follows s t zero i at b z pr = record {
-  same = rw (parse_zero t 0 i refl, parse_zero s 0 at refl) (match_none (taken_of s b));
-  tpl = λ o. sym (ap (λ (u : ParsedTree). u.end) (parse_zero t 0 i refl));
-  next = λ o. sym (ap (λ (u : ParsedTree). u.end) (parse_zero s 0 at refl));
-  sized = z;
-}
+match_follows s t zero i at b z pr =
+    let m : Match = record { tpl = i; next = at; bind = b } in
+    record {
+      same = rw (parse_zero t 0 i refl, parse_zero s 0 at refl) (match_none (taken_of s b));
+      stops = λ x o. rw (parse_zero t 0 i refl, parse_zero s 0 at refl) (subst (Stops i at) (same_Some m x o) (record { tpl = refl; next = refl; sized = z }));
+    }
 match_follows s t (suc k) i at b z pr = go (ltb (node_at t i).code first_hole) refl (λ i at b z pr. match_follows s t k i at b z pr)
   where
     go : (c : Bool) → ltb (node_at t i).code first_hole ≡ c

@@ -1,117 +1,106 @@
 // The matcher: a template and a formula, node by node.
+#![tactic(auto, using(crate::proofs::MatchBranches::match_ways))]
+
 ghost use Rattle.std.specs.Prelude.{◌≡◌, ◌<◌};
 ghost use Rattle.formula_match.specs.MatchPlaces.{node_of, root_at, match_at};
 
-use crate::bind::{Bind, Hole, Root, match_hole, match_operand};
+use crate::bind::{Bind, Hole, Rest, Root, match_hole, match_operand};
 use formula::code::has_operand;
 use formula::end::end_at;
 use formula::node::{Node, node_at};
 
-// Whether a template fits, the positions past the template and the formula, and the bindings of the holes.
+// The positions past a template and a formula that it fits, and the bindings of the holes.
 #[derive(Clone, Copy)]
 pub struct Match {
-    pub ok: bool,
     pub tpl: usize,
     pub next: usize,
     pub bind: Bind,
 }
 
 // Matches a node of a template that is no hole with a node of a formula.
-pub fn match_node(pattern: Node, node: Node, bind: Bind) -> Root
-    requires { node.parts < 3 }
-    ensures { result ≡ node_of pattern node bind }
+#[tactic(auto, using(limits::proofs::BranchTests::tests), unfolding(crate::specs::MatchPlaces::node_of))]
+pub fn match_node(pattern: Node, node: Node, bind: &Bind) -> Option<Root>
+    ensures { result ≡ node_of pattern node bind.now }
 {
     if pattern.code != node.code {
-        return Root {
-            kind: 0,
-            tpl: 0,
-            next: 0,
-            bind: bind,
-        };
+        return None;
     }
-    if has_operand(pattern.code) {
-        let t = match_operand(pattern.operand, node.operand, bind);
-        let n = t.bind;
-        if t.ok {
-            return Root {
-                kind: node.parts + 1,
-                tpl: pattern.next,
-                next: node.next,
-                bind: n,
-            };
-        }
-        return Root {
-            kind: 0,
-            tpl: 0,
-            next: 0,
-            bind: bind,
-        };
+    let mut bind = *bind;
+    if has_operand(pattern.code) && !match_operand(pattern.operand, node.operand, &mut bind) {
+        return None;
     }
-    Root {
-        kind: node.parts + 1,
+    let rest = match node.parts {
+        0 => Rest::Nothing(node.next),
+        1 => Rest::One(node.next),
+        _ => Rest::Two(node.next),
+    };
+    Some(Root {
         tpl: pattern.next,
-        next: node.next,
-        bind: bind,
-    }
+        rest,
+        bind,
+    })
 }
 
+// `i`, `at`, `left` and the bindings change apart from each other at each step, so a struct of them would be made anew in every call.
 // Matches the root of the template at `i` with the root of the formula at `at`. With no nesting left there is nothing to match.
-pub fn match_root(image: &[u8], templates: &[u8], i: usize, at: usize, left: u8, bind: Bind) -> Root
-    ensures { result ≡ root_at image.now templates.now i at left bind }
+pub fn match_root(
+    image: &[u8],
+    templates: &[u8],
+    i: usize,
+    at: usize,
+    left: u8,
+    bind: &Bind,
+) -> Option<Root>
+    ensures { result ≡ root_at image.now templates.now i at left bind.now }
 {
     if left == 0 {
-        return Root {
-            kind: 1,
+        return Some(Root {
             tpl: i,
-            next: at,
-            bind: bind,
-        };
+            rest: Rest::Nothing(at),
+            bind: *bind,
+        });
     }
-    let h = node_at(templates, i);
-    if h.code < Hole::FORMULAS {
-        return match_node(h, node_at(image, at), bind);
+    let pattern = node_at(templates, i);
+    if pattern.code < Hole::FORMULAS {
+        return match_node(pattern, node_at(image, at), bind);
     }
-    let j = h.code - Hole::FORMULAS;
+    let j = pattern.code - Hole::FORMULAS;
     if j < Hole::COUNT {
-        return match_hole(image, h.next, j as usize, at, left, bind);
+        return match_hole(image, pattern.next, usize::from(j), at, left, bind);
     }
-    Root {
-        kind: 0,
-        tpl: 0,
-        next: 0,
-        bind: bind,
-    }
+    None
 }
 
 // Matches the template at `i` with the formula at `at`, nested at most `left` deep.
-pub fn match_at(image: &[u8], templates: &[u8], i: usize, at: usize, left: u8, bind: Bind) -> Match
-    ensures { result ≡ match_at image.now templates.now left i at bind }
+pub fn match_at(
+    image: &[u8],
+    templates: &[u8],
+    i: usize,
+    at: usize,
+    left: u8,
+    bind: &Bind,
+) -> Option<Match>
+    ensures { result ≡ match_at image.now templates.now left i at bind.now }
 {
-    let r = match_root(image, templates, i, at, left, bind);
-    let n = r.bind;
-    if r.kind == 2 {
-        return match_at(image, templates, r.tpl, r.next, left - 1, n);
-    }
-    if r.kind == 3 {
-        let m = match_at(image, templates, r.tpl, r.next, left - 1, n);
-        if m.ok {
-            let o = m.bind;
-            return match_at(image, templates, m.tpl, m.next, left - 1, o);
+    let Root { tpl, rest, bind } = match_root(image, templates, i, at, left, bind)?;
+    match rest {
+        Rest::Nothing(next) => Some(Match { tpl, next, bind }),
+        Rest::Taken => Some(Match {
+            tpl,
+            next: end_at(image, at, usize::from(left)),
+            bind,
+        }),
+        Rest::One(next) => match_at(image, templates, tpl, next, left - 1, &bind),
+        Rest::Two(next) => {
+            let first = match_at(image, templates, tpl, next, left - 1, &bind)?;
+            match_at(
+                image,
+                templates,
+                first.tpl,
+                first.next,
+                left - 1,
+                &first.bind,
+            )
         }
-        return m;
-    }
-    if r.kind == 4 {
-        return Match {
-            ok: true,
-            tpl: r.tpl,
-            next: end_at(image, at, left as usize),
-            bind: n,
-        };
-    }
-    Match {
-        ok: 0 < r.kind,
-        tpl: r.tpl,
-        next: r.next,
-        bind: n,
     }
 }

@@ -9,7 +9,7 @@ use Rattle.limits.specs.Limits.{nesting}
 use Rattle.formula.specs.Tree.{parse_tree}
 use Rattle.formula.specs.Reader.{fault_at, reading_of}
 use Rattle.formula.specs.declared.reader.Counts.{Counts}
-use Rattle.formula.specs.declared.reader.Reading.TheVariants.{Formula}
+use Rattle.std.specs.Prelude.{Ok}
 use Rattle.formula_trees.specs.ToTree.{to_tree}
 use Rattle.formula_trees.proofs.NodeBytes.{head, head_fine}
 use Rattle.formula_trees.proofs.ReadFormula.{Passed, passed}
@@ -42,7 +42,7 @@ module _ (image b : List ℕ) (n : Counts) (m p : ℕ) (e : b ≡ take m (drop p
           there ∙ rw (here, ends)
 
   -- a whole body
-  pub part_reading : (place : ℕ) → reading_of b n ≡ Formula place
+  pub part_reading : (place : ℕ) → reading_of b n ≡ Ok place
       → parse_tree image nesting p ≡ record { tree = (parse_tree b nesting 0).tree; end = p + length b }
   part_reading place r = let z : p + 0 ≡ p = omega arith in
       rw z at (rw (reading_end b n place r) at (part_parse nesting place 0 (reading_fault b n place r)))

@@ -11,9 +11,11 @@ use borrow.Author.Tests.{eqb-true, eq-eqb, ne_eqb}
 use Rattle.semantics.specs.Formula.{Sort, Formula, encode, nesting}
 use Rattle.limits.specs.Limits.{nesting as most}
 use Rattle.formula.specs.Tree.{parse_tree}
-use Rattle.formula.specs.Reader.{malformed, fault_at, sort_of, reading_of}
+use Rattle.std.specs.Prelude.{Ok, Err}
+use Rattle.formula.specs.Reader.{fault_named, fault_at, sort_of, reading_of}
 use Rattle.formula.specs.declared.reader.Counts.{Counts}
-use Rattle.formula.specs.declared.reader.Reading.TheVariants.{Formula as Read, Fault}
+use Rattle.formula.specs.declared.reader.Fault.{Fault}
+use Rattle.formula.specs.declared.reader.Fault.TheVariants.{Malformed}
 use Rattle.formula_trees.specs.ToTree.{Sorted}
 use Rattle.formula_trees.specs.Place.{sort_at, place, formula_at, over_regs, alone, in_counts, Readable}
 use Rattle.formula_trees.proofs.Constructors.{by_shape}
@@ -23,21 +25,21 @@ use Rattle.formula_trees.proofs.ReadWithin.{reads_counts, reads_nesting, reads_a
 use Rattle.formula_trees.proofs.EncodedTree.{size, parse_encode}
 use Rattle.formula_trees.proofs.ReaderAccepts.{passes}
 
-other : (f p : ℕ) → Fault f ≡ Read p → ⊥
+other : (f : Fault) (p : ℕ) → Err f ≡ Ok p → ⊥
 other f p e = let z : ◌≡◌ {A = ℕ} 0 1 = cc in omega arith
 
-module _ (b : List ℕ) (n : Counts) (p : ℕ) (r : reading_of b n ≡ Read p) where
+module _ (b : List ℕ) (n : Counts) (p : ℕ) (r : reading_of b n ≡ Ok p) where
   read : (p ≡ sort_of b) × (fault_at b n most p 0 ≡ 0) × ((parse_tree b most 0).end ≡ length b)
   unfolding reading_of
   read = go (eqb (fault_at b n most (sort_of b) 0) 0) (eqb (parse_tree b most 0).end (length b)) refl refl r
     where
       go : (c d : Bool) → eqb (fault_at b n most (sort_of b) 0) 0 ≡ c → eqb (parse_tree b most 0).end (length b) ≡ d
-          → cond c (cond d (Read (sort_of b)) (Fault malformed)) (Fault (fault_at b n most (sort_of b) 0)) ≡ Read p
+          → cond c (cond d (Ok (sort_of b)) (Err Malformed)) (Err (fault_named (fault_at b n most (sort_of b) 0))) ≡ Ok p
           → (p ≡ sort_of b) × (fault_at b n most p 0 ≡ 0) × ((parse_tree b most 0).end ≡ length b)
       go true true e f h = let q : sort_of b ≡ p = cc in
           (sym q, rw (← q) (eqb-true (fault_at b n most (sort_of b) 0) 0 e), eqb-true (parse_tree b most 0).end (length b) f)
-      go true false e f h = absurd (other malformed p h)
-      go false d e f h = absurd (other (fault_at b n most (sort_of b) 0) p h)
+      go true false e f h = absurd (other Malformed p h)
+      go false d e f h = absurd (other (fault_named (fault_at b n most (sort_of b) 0)) p h)
 
   pub reading_fault : fault_at b n most p 0 ≡ 0
   reading_fault = read.1
@@ -89,7 +91,7 @@ sort_first = by_shape (λ s f. sort_of (encode f []) ≡ place false s) (λ c p 
     (λ c p q t f g h k. rw (t.bytes 0 f g []) t.eighth)
 
 pub reading_encode : {s : Sort} (f : Formula s) (n : Counts) → T (in_counts n f) → T (alone false f) → nesting f ≤ most
-    → reading_of (encode f []) n ≡ Read (place false s)
+    → reading_of (encode f []) n ≡ Ok (place false s)
 unfolding reading_of
 reading_encode f n i a h = rw (
   sort_first f,
@@ -105,5 +107,5 @@ place_sort (suc (suc zero)) h = refl
 place_sort (suc (suc (suc zero))) h = refl
 place_sort (suc (suc (suc (suc p)))) h = absurd (omega arith)
 
-pub readable_read : (b : List ℕ) (n : Counts) (p : ℕ) → Readable b n p → reading_of b n ≡ Read p
-readable_read b n p q = rw q.bytes (reading_encode q.formula n q.counted q.lone q.deep ∙ ap Read (place_sort p q.sort))
+pub readable_read : (b : List ℕ) (n : Counts) (p : ℕ) → Readable b n p → reading_of b n ≡ Ok p
+readable_read b n p q = rw q.bytes (reading_encode q.formula n q.counted q.lone q.deep ∙ ap Ok (place_sort p q.sort))

@@ -10,7 +10,8 @@ use Rattle.semantics.specs.Code.{byte}
 use Rattle.semantics.specs.Formula.{Sort, Formula, Value, Formula.const, Formula.reg, Formula.word, Formula.sum, Formula.equal, Formula.less, Formula.and, Formula.or, Formula.unsync, Formula.cov, Formula.box, Formula.one, Formula.chop, Formula.both, Formula.either, Formula.sees, Formula.both_a, Formula.either_a, Formula.start, Formula.holds}
 use Rattle.semantics.specs.Replace.{Note, Sub, replace, noted, notes, reg_by, word_by}
 use Rattle.formula.specs.Tree.{Tree, none, node}
-use Rattle.formula_compare.specs.Replace.{is_name, replace_t, name_code, one_name, named}
+use Rattle.formula_compare.specs.declared.replace.Name.TheVariants as Name
+use Rattle.formula_compare.specs.Replace.{is_name, replace_t, is_named, one_name, named}
 use Rattle.formula_trees.specs.ToTree.{to_tree, note_t}
 
 -- τ stands for the trees of what σ puts for each name
@@ -47,23 +48,23 @@ to_tree_if false v w = refl
 
 -- a register by a value; a word by a value
 pub to_tree_reg : (r : ℕ) {s : Sort} (v : Value) (f : Formula s)
-    → replace_t (one_name false r (to_tree v)) (to_tree f) ≡ to_tree (replace (reg_by r v) f)
-unfolding one_name name_code upd
-to_tree_reg r v f = replaced (one_name false r (to_tree v)) (reg_by r v) (λ q. to_tree_if (eqb q r) v (reg q)) (λ x. refl) f
+    → replace_t (one_name (Name.Register r) (to_tree v)) (to_tree f) ≡ to_tree (replace (reg_by r v) f)
+unfolding one_name is_named upd
+to_tree_reg r v f = replaced (one_name (Name.Register r) (to_tree v)) (reg_by r v) (λ q. to_tree_if (eqb q r) v (reg q)) (λ x. refl) f
 
 pub to_tree_word : (x : ℕ) {s : Sort} (v : Value) (f : Formula s)
-    → replace_t (one_name true x (to_tree v)) (to_tree f) ≡ to_tree (replace (word_by x v) f)
-unfolding one_name name_code upd
-to_tree_word x v f = replaced (one_name true x (to_tree v)) (word_by x v) (λ r. refl) (λ y. to_tree_if (eqb y x) v (word y)) f
+    → replace_t (one_name (Name.Word x) (to_tree v)) (to_tree f) ≡ to_tree (replace (word_by x v) f)
+unfolding one_name is_named upd
+to_tree_word x v f = replaced (one_name (Name.Word x) (to_tree v)) (word_by x v) (λ r. refl) (λ y. to_tree_if (eqb y x) v (word y)) f
 
 -- several registers at once
 noted_reg : (ns : List Note) (q : ℕ) → named (map note_t ns) (byte Code.reg) q ≡ to_tree (noted ns q)
-unfolding name_code upd
+unfolding is_named upd
 noted_reg [] q = refl
 noted_reg (n ∷ l) q = ap (cond (eqb q n.to) (to_tree n.by)) (noted_reg l q) ∙ to_tree_if (eqb q n.to) n.by (noted l q)
 
 noted_word : (ns : List Note) (x : ℕ) → named (map note_t ns) (byte Code.word) x ≡ to_tree (word x)
-unfolding name_code
+unfolding is_named
 noted_word [] x = refl
 noted_word (n ∷ l) x = noted_word l x
 

@@ -1,116 +1,78 @@
-// The code of a handover between accepted images.
-ghost use Rattle.std.specs.Prelude.{◌≡◌, ◌≤◌};
+// Whether a handover between accepted images is permitted.
+ghost use Rattle.std.specs.Prelude.{◌≡◌, Ok};
 ghost use Rattle.image_frames.specs.Records.{bodies};
-ghost use Rattle.image_index.specs.IndexTable.{index_of};
 ghost use Rattle.image.specs.Decode.{decoded};
-ghost use Rattle.image.specs.declared.decode.Decoded.TheVariants.{Sound};
 ghost use Rattle.image_meaning.specs.Image.{image_of};
-ghost use Rattle.image_access.specs.Totals.{totals_of};
 ghost use Rattle.rules_justified.specs.Justify.{marks_to};
 ghost use Rattle.handover_spec.specs.Code.{code_between, code_of};
 ghost use Rattle.handover_spec.specs.LinesFound.{threads_serve};
+ghost use Rattle.handover_spec.specs.Refusal.{code_told};
 
 use handover_spec::lines::lines_serve;
+use handover_spec::refusal::Refusal;
 use handover_spec::same_bytes::same_bytes;
 use handover_spec::table::table_fits;
-use image_access::totals::{Totals, totals_of};
+use image_access::totals::Counted;
 use image_header::sizes::Sizes;
-use image_index::look_up::body_of;
+use image_index::indexed::Indexed;
 use rules_justified::justify::judge_lines;
 
-// The codes of a handover.
-#[derive(Drop)]
-pub struct Handover;
-
-impl Handover {
-    // The handover is permitted.
-    pub const PERMITTED: u16 = 0;
-
-    // An image is not accepted, or the two are unlike.
-    pub const UNLIKE: u16 = 32;
-
-    // The table is too short, too long or somewhere out of range.
-    pub const OUT_OF_RANGE: u16 = 33;
-
-    // A named line does not serve.
-    pub const UNSERVED: u16 = 34;
-}
-
+// `Counted` is made of images that no one has decoded, too, so that these are decoded stands in the clauses.
 // Whether every line that the table names serves, in images with equally many threads.
-fn all_serve<'a, 'b, 'c, 'd, 'e>(
-    old: &'a [u8],
-    old_index: &'b [usize],
-    old_sizes: Sizes,
-    old_totals: Totals,
-    new: &'c [u8],
-    new_index: &'d [usize],
-    new_sizes: Sizes,
-    table: &'e [u8],
-) -> bool
-    requires { (((old_index.now ≡ index_of old.now) × ((decoded old.now ≡ Sound old_sizes)
-        × (old_totals ≡ totals_of old_sizes (bodies old.now))))
-        × ((new_index.now ≡ index_of new.now) × (decoded new.now ≡ Sound new_sizes)))
-        × (old_sizes.threads ≡ new_sizes.threads) }
-    ensures { result ≡ threads_serve old.now old_sizes new.now new_sizes
+#[tactic(auto, using(handover_spec::proofs::Decided::marks_found, limits::proofs::BranchTests::tests))]
+fn all_serve(old: &Counted, new: &Indexed, new_sizes: Sizes, table: &[u8]) -> bool
+    requires { ((decoded old.now.image.now ≡ Ok old.now.sizes) × (decoded new.now ≡ Ok new_sizes))
+        × (old.now.sizes.threads ≡ new_sizes.threads) }
+    ensures { result ≡ threads_serve old.now.image.now old.now.sizes new.now new_sizes
         (marks_to new.now new_sizes new_sizes.lines)
-        table.now old_sizes.threads }
+        table.now old.now.sizes.threads }
 {
-    let d = totals_of(new, new_index, new_sizes);
-    let marks = judge_lines(new, new_index, new_sizes);
-    lines_serve(
-        old, old_index, old_sizes, old_totals, new, new_index, new_sizes, d, &marks.on, table,
-    )
+    let records = Counted::new(new, new_sizes);
+    let marks = judge_lines(new, new_sizes);
+    lines_serve(old, &records, &marks.on, table)
 }
 
-// The code for two images that are alike: 33 comes before any 34.
-fn code_between<'a, 'b, 'c, 'd, 'e>(
-    old: &'a [u8],
-    old_index: &'b [usize],
+// Whether the handover is permitted, for two images that are alike: a table out of range comes before any line that does not serve.
+#[tactic(auto, using(handover_spec::proofs::Decided::between, limits::proofs::BranchTests::tests))]
+fn code_between(
+    old: &Indexed,
     old_sizes: Sizes,
-    new: &'c [u8],
-    new_index: &'d [usize],
+    new: &Indexed,
     new_sizes: Sizes,
-    table: &'e [u8],
-) -> u16
-    requires { (((old_index.now ≡ index_of old.now) × (decoded old.now ≡ Sound old_sizes))
-        × ((new_index.now ≡ index_of new.now) × (decoded new.now ≡ Sound new_sizes)))
+    table: &[u8],
+) -> Result<(), Refusal>
+    requires { ((decoded old.now ≡ Ok old_sizes) × (decoded new.now ≡ Ok new_sizes))
         × (old_sizes.threads ≡ new_sizes.threads) }
-    ensures { (result ≡ code_between (image_of old_sizes (bodies old.now)) (image_of new_sizes (bodies new.now))
-        table.now) × (result ≤ 34) }
+    ensures { code_told result ≡ code_between (image_of old_sizes (bodies old.now)) (image_of new_sizes (bodies new.now))
+        table.now }
 {
-    let totals = totals_of(old, old_index, old_sizes);
-    if table_fits(
-        old, old_index, old_sizes, totals, new, new_index, new_sizes, table,
-    ) {
-        if all_serve(
-            old, old_index, old_sizes, totals, new, new_index, new_sizes, table,
-        ) {
-            return Handover::PERMITTED;
-        }
-        return Handover::UNSERVED;
+    let records = Counted::new(old, old_sizes);
+    if !table_fits(&records, new, new_sizes, table) {
+        return Err(Refusal::OutOfRange);
     }
-    Handover::OUT_OF_RANGE
+    if !all_serve(&records, new, new_sizes, table) {
+        return Err(Refusal::Unserved);
+    }
+    Ok(())
 }
 
-// The code for two accepted images. They are alike if the bodies of their headers are equal: these have threads, words, registers, range,
-// start values, owners and start marks, and nothing else.
-pub fn handover_code<'a, 'b, 'c, 'd, 'e>(
-    old: &'a [u8],
-    old_index: &'b [usize],
+// Whether the handover is permitted, for two accepted images. They are alike if the bodies of their headers are equal: these have threads,
+// words, registers, range, start values, owners and start marks, and nothing else.
+#[tactic(auto, using(handover_spec::proofs::Decided::headers, limits::proofs::BranchTests::tests))]
+pub fn handover_code(
+    old: &Indexed,
     old_sizes: Sizes,
-    new: &'c [u8],
-    new_index: &'d [usize],
+    new: &Indexed,
     new_sizes: Sizes,
-    table: &'e [u8],
-) -> u16
-    requires { ((old_index.now ≡ index_of old.now) × (decoded old.now ≡ Sound old_sizes))
-        × ((new_index.now ≡ index_of new.now) × (decoded new.now ≡ Sound new_sizes)) }
-    ensures { (result ≡ code_of old.now old_sizes new.now new_sizes table.now) × (result ≤ 34) }
+    table: &[u8],
+) -> Result<(), Refusal>
+    requires { (decoded old.now ≡ Ok old_sizes) × (decoded new.now ≡ Ok new_sizes) }
+    ensures { code_told result ≡ code_of old.now old_sizes new.now new_sizes table.now }
 {
-    let a = body_of(old, old_index, 0);
-    let body = body_of(new, new_index, 0);
-    if same_bytes(a, body) {
-        return code_between(old, old_index, old_sizes, new, new_index, new_sizes, table);
+    let header = old.body_of(0);
+    let other = new.body_of(0);
+    if !same_bytes(header, other) {
+        return Err(Refusal::Unlike);
     }
-    Handover::UNLIKE
+    code_between(old, old_sizes, new, new_sizes, table)
 }

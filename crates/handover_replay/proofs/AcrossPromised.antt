@@ -8,6 +8,8 @@ use native.Mathlib.Omega.{arith}
 use lib.Dec.{T, eqb, ltb}
 use lib.ListN.{length, get_or, take, drop}
 use borrow.Author.Tests.{eqb-true, eqb-false, eq-eqb, ne_eqb, ltb-false, lt-ltb, le-ltb}
+use Rattle.std.specs.declared.option.Option.{Option}
+use Rattle.std.specs.declared.option.Option.TheVariants.{None, Some}
 use Rattle.semantics.specs.Base.{Within}
 use Rattle.semantics.specs.Machine.{State, Program, Step, Start, begin, run}
 use Rattle.semantics.specs.EveryRun.{Outline, Holds}
@@ -26,8 +28,6 @@ use Rattle.image_meaning.specs.Image.{image_of}
 use Rattle.image_meaning.proofs.RecordsChecked.{Checks, sound_checks}
 use Rattle.image_meaning.proofs.WellFormedProgram.{range_two, well-formed}
 use Rattle.checker_spec.specs.Acceptance.{acceptance}
-use Rattle.checker_spec.specs.declared.acceptance.Acceptance.{Acceptance}
-use Rattle.checker_spec.specs.declared.acceptance.Acceptance.TheVariants.{Granted, Declined}
 use Rattle.checker_spec.proofs.AcceptedHolds.{granted_holds}
 use Rattle.tables_columns.specs.Column.{column}
 use Rattle.replay_memory.specs.declared.write.Write.{Write}
@@ -44,8 +44,8 @@ use Rattle.replay_spec.specs.StateStands.{StandsFor}
 use Rattle.replay_machine.specs.Replayed.{room_of, of_run, replay_on}
 use Rattle.replay_spec.specs.ReplayNumbers.{replay_of}
 use Rattle.replay_machine.specs.declared.state.Machine.{Machine}
-use Rattle.replay_machine.specs.declared.run.Run.{Run}
-use Rattle.replay_machine.specs.declared.replayed.Replayed.{Replayed}
+use Rattle.replay_machine.specs.Run.{Run}
+use Rattle.replay_machine.specs.Replayed.{Replayed}
 use Rattle.replay_spec.proofs.StepFollows.{Ready, range_is}
 use Rattle.replay_spec.proofs.RunFollows.{reached, Matches, follows}
 use Rattle.replay_spec.proofs.StartStands.{begun}
@@ -65,7 +65,7 @@ use Rattle.replay_spec.proofs.ReplayPromised.{table_is}
 use Rattle.handover_replay.specs.JoinedRun.{mapped_point, handed_over, behind, went_on}
 use Rattle.handover_replay.specs.ReplayAcross.{across_on, refused_by, across_by, by_acceptance, across_of}
 use Rattle.handover_replay.specs.Promise.{unpermitted, Across, Promise, Written}
-use Rattle.handover_replay.proofs.JoinedBranches.{on_refused}
+use Rattle.handover_replay.proofs.JoinedBranches.{went_refused}
 
 -- more threads have more points
 points_rise : (P : Program) (n m : ℕ) → n ≤ m → points_to P n ≤ points_to P m
@@ -91,8 +91,8 @@ unfolding used
 used_handed to s zero = refl
 used_handed to s (suc n) = ap (λ (k : ℕ). k + s.size (suc n)) (used_handed to s n)
 
-module _ (old : List ℕ) (z : Sizes) (new : List ℕ) (y : Sizes) (points : List ℕ) (a : acceptance old ≡ Granted z)
-    (b : acceptance new ≡ Granted y)
+module _ (old : List ℕ) (z : Sizes) (new : List ℕ) (y : Sizes) (points : List ℕ) (a : acceptance old ≡ Some z)
+    (b : acceptance new ≡ Some y)
     (e : code_of old z new y points ≡ 0) (first second given : List ℕ) (lent : ℕ) where
   abbrev P : Program
   P = program_of z (bodies old)
@@ -318,7 +318,7 @@ module _ (old : List ℕ) (z : Sizes) (new : List ℕ) (y : Sizes) (points : Lis
     unfolding across_on replay_on
     stopped_is h =
         rw (le-ltb room z.words fit)
-        (ap (of_run z) (sym (on_refused old z new y points room old_run second
+        (ap (of_run z) (sym (went_refused old z new y points room old_run second
         (λ (q : old_run.code ≡ 0). h (sym old_matches.code ∙ q)))))
 
   unfit_is : room < z.words → across_on old z new y points first second given room ≡ replay_on old z first given room
@@ -337,17 +337,17 @@ module _ (old new points first second given : List ℕ) (lent : ℕ) where
   unfolding across_of across_by handover_code
   refused_is h = go (acceptance old) (acceptance new) h
     where
-      go : (x w : Acceptance) → (Code.by_acceptance old new points x w ≡ 0 → ⊥)
+      go : (x w : Option Sizes) → (Code.by_acceptance old new points x w ≡ 0 → ⊥)
           → by_acceptance old new points first second given (room_of lent) x w ≡ refused_by (Code.by_acceptance old new points x w)
-      go Declined w g = refl
-      go (Granted z) Declined g = refl
-      go (Granted z) (Granted y) g = rw (ne_eqb (code_of old z new y points) 0 g)
+      go None w g = refl
+      go (Some z) None g = refl
+      go (Some z) (Some y) g = rw (ne_eqb (code_of old z new y points) 0 g)
 
   refused_answer : (n : ℕ) → (answer_of (refused_by n) ≡ unpermitted n) × (shown_of (refused_by n) lent ≡ [])
   unfolding refused_by answer_of shown_of started start_registers start_values_to start_register column
   refused_answer n = (refl, refl)
 
-  module _ (z y : Sizes) (a : acceptance old ≡ Granted z) (b : acceptance new ≡ Granted y) where
+  module _ (z y : Sizes) (a : acceptance old ≡ Some z) (b : acceptance new ≡ Some y) where
     code_is : code ≡ code_of old z new y points
     unfolding handover_code
     code_is = ap₂ (Code.by_acceptance old new points) a b
@@ -385,7 +385,7 @@ module _ (old new points first second given : List ℕ) (lent : ℕ) where
         (goes_on old z new y points p q (sym (code_is z y p q) ∙ h) first second given lent f g);
   }
     where
-      as_replay : (z y : Sizes) → (p : acceptance old ≡ Granted z) → (q : acceptance new ≡ Granted y) → code ≡ 0
+      as_replay : (z y : Sizes) → (p : acceptance old ≡ Some z) → (q : acceptance new ≡ Some y) → code ≡ 0
           → across_on old z new y points first second given (room_of lent) ≡ replay_on old z first given (room_of lent)
           → all ≡ replay_of old first given lent
       as_replay z y p q h s = permitted_is z y p q h ∙ s ∙ sym (replay_is z y p q)
@@ -428,3 +428,5 @@ module _ (old new points first second given table room : List ℕ) where
     numbers = rw (le-ltb _ _ h) et;
     bytes = rw (le-ltb _ _ h) es;
   }
+
+pub ruleset written_branches = (written_short, written_whole)

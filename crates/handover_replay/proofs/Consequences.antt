@@ -5,6 +5,7 @@ use mathlib.Core.List.{List, [], ◌∷◌, ◌++◌}
 use Prim.Native.Nat.{ℕ, suc, ◌+◌, ◌*◌, ◌≤◌, ◌<◌}
 use lib.Dec.{T}
 use lib.ListN.{length, get_or, take, drop, replicate}
+use Rattle.std.specs.declared.option.Option.TheVariants.{Some}
 use Rattle.semantics.specs.Base.{Within}
 use Rattle.semantics.specs.Machine.{State, Program, begin, run}
 use Rattle.semantics.specs.Truth.{True}
@@ -14,7 +15,6 @@ use Rattle.image_frames.specs.Records.{bodies}
 use Rattle.image_header.specs.declared.sizes.Sizes.{Sizes}
 use Rattle.image_meaning.specs.Program.{program_of, outline_of}
 use Rattle.checker_spec.specs.Acceptance.{acceptance}
-use Rattle.checker_spec.specs.declared.acceptance.Acceptance.TheVariants.{Granted}
 use Rattle.tables_columns.specs.Column.{column}
 use Rattle.replay_memory.specs.Write.{start_write}
 use Rattle.replay_memory.specs.declared.write.Write.{Write}
@@ -118,7 +118,7 @@ module _ (old new points first second given : List ℕ) (lent : ℕ) (a : Answer
   pub not_permitted_table : (handover_code old new points ≡ 0 → ⊥) → shown ≡ []
   not_permitted_table h = (p.refused h).1
 
-  module _ (z y : Sizes) (granted : acceptance old ≡ Granted z) (granted₂ : acceptance new ≡ Granted y)
+  module _ (z y : Sizes) (granted : acceptance old ≡ Some z) (granted₂ : acceptance new ≡ Some y)
       (permitted : handover_code old new points ≡ 0) where
     -- "If the start writes don't fit, 29 comes before any step"
     pub start_unfit : room_of lent < z.words → Unfit old z first given (room_of lent) a shown

@@ -6,7 +6,7 @@ use Prim.Native.Nat.{ℕ, suc, ◌+◌, ◌-◌, ◌*◌, ◌≤◌, ◌<◌}
 use native.Mathlib.Omega.{arith}
 use lib.Dec.{eqb}
 use lib.ListN.{length, get_or}
-use borrow.Author.Tests.{eq-eqb, ne_eqb, lt-ltb, le-ltb}
+use borrow.Author.Tests.{ne_eqb, lt-ltb, le-ltb}
 use Rattle.image_frames.specs.Records.{bodies}
 use Rattle.image_header.specs.declared.sizes.Sizes.{Sizes}
 use Rattle.image_bodies.specs.PointCounts.{point_counts_to}
@@ -14,10 +14,15 @@ use Rattle.image_meaning.specs.Program.{program_of}
 use Rattle.handover_spec.specs.Table.{point_named, points_to}
 use Rattle.handover_spec.proofs.FewPoints.{points_are}
 use Rattle.replay_machine.specs.Step.{stepped}
-use Rattle.replay_machine.specs.Run.{ran}
+use Rattle.replay_machine.specs.Run.{Run, told, ran}
 use Rattle.replay_machine.specs.declared.state.Machine.{Machine}
-use Rattle.replay_machine.specs.declared.run.Run.{Run}
-use Rattle.handover_replay.specs.JoinedRun.{mapped_point, handed_over, went_on}
+use Rattle.replay_machine.specs.declared.run.Run as Code
+use Rattle.replay_machine.specs.Refusal.{code_of}
+use Rattle.replay_machine.specs.declared.pick.Refusal.{Refusal}
+use Rattle.replay_machine.proofs.StepBranches.{refused_some}
+use Rattle.std.specs.declared.result.Result.{Result}
+use Rattle.std.specs.declared.result.Result.TheVariants.{Ok, Err}
+use Rattle.handover_replay.specs.JoinedRun.{most_steps, mapped_point, handed_over, went_on}
 
 -- points
 
@@ -60,15 +65,26 @@ steps_half s z room n k (t ∷ p ∷ l) = go (eqb (stepped s z room n t p).code 
     go true h = omega arith
     go false h = omega arith
 
-pub steps_few : (s : List ℕ) (z : Sizes) (room : ℕ) (n : Machine) (l : List ℕ) (r : Run) → r ≡ ran s z room n 0 l → 2 * r.steps ≤ length l
-steps_few s z room n l r e = let h = steps_half s z room n 0 l in let q = ap (λ (x : Run). x.steps) e in omega arith
+pub steps_few : (s : List ℕ) (z : Sizes) (room : ℕ) (n : Machine) (l : List ℕ) (r : Code.Run) → told r ≡ ran s z room n 0 l
+    → length l < 9223372036854775808 → r.steps < most_steps
+unfolding told
+steps_few s z room n l r e few = let h = steps_half s z room n 0 l in let q = ap (λ (x : Run). x.steps) e in omega arith
 
-module _ (old : List ℕ) (z : Sizes) (new : List ℕ) (y : Sizes) (points : List ℕ) (room : ℕ) (r : Run) (second : List ℕ) where
-  pub on_refused : (r.code ≡ 0 → ⊥) → r ≡ went_on old z new y points room r second
-  unfolding went_on
-  on_refused h = rw (ne_eqb r.code 0 h)
+pub went_refused : (old : List ℕ) (z : Sizes) (new : List ℕ) (y : Sizes) (points : List ℕ) (room : ℕ) (r : Run) (second : List ℕ)
+    → (r.code ≡ 0 → ⊥) → r ≡ went_on old z new y points room r second
+unfolding went_on
+went_refused old z new y points room r second h = rw (ne_eqb r.code 0 h)
 
-  pub on_taken : (n : Machine) (q : Run) → r.code ≡ 0 → n ≡ handed_over old z points r.machine → q ≡ ran new y room n 0 second
-      → record { code = q.code; steps = r.steps + q.steps; machine = q.machine } ≡ went_on old z new y points room r second
-  unfolding went_on
-  on_taken n q h en eq = rw (eq-eqb r.code 0 h, ← en, ← eq)
+module _ (old : List ℕ) (z : Sizes) (new : List ℕ) (y : Sizes) (points : List ℕ) (room : ℕ) (r : Code.Run) (second : List ℕ) where
+  pub on_refused : (x : Refusal) → r.ended ≡ Err x → told r ≡ went_on old z new y points room (told r) second
+  unfolding went_on told
+  on_refused x h = rw (ap (λ (e : Result (Unit {0}) Refusal). eqb (code_of e) 0) h ∙ refused_some x)
+
+  pub on_taken : (n : Machine) (q : Code.Run) → r.ended ≡ Ok tt → n ≡ handed_over old z points r.machine → told q ≡ ran new y room n 0 second
+      → told (record { ended = q.ended; steps = r.steps + q.steps; machine = q.machine }) ≡ went_on old z new y points room (told r) second
+  unfolding went_on told
+  on_taken n q h en eq = rw (h, ← en, ← eq)
+
+pub ruleset mapped_branches = (mapped_none, mapped_there)
+
+pub ruleset on_branches = (on_refused, on_taken)

@@ -6,7 +6,7 @@ use Rattle.image_meaning.specs.Program.{program_of}
 use Rattle.handover_spec.specs.Table.{new_point}
 use Rattle.replay_machine.specs.Run.{ran}
 use Rattle.replay_machine.specs.declared.state.Machine.{Machine}
-use Rattle.replay_machine.specs.declared.run.Run.{Run}
+use Rattle.replay_machine.specs.Run.{Run}
 
 -- 2 ^ 62: more steps than any trace has
 abbrev pub most_steps : ℕ

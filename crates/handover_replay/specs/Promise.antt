@@ -1,5 +1,5 @@
 -- THE PROMISE of a replay across a handover, whole, and of the entry point `replay_handover`.
-use Rattle.std.specs.Prelude.{◌≡◌, true, List, [], ℕ, suc, ◌+◌, ◌≤◌, ◌<◌, T, length, get_or, take, replicate}
+use Rattle.std.specs.Prelude.{◌≡◌, true, List, [], ℕ, suc, ◌+◌, ◌≤◌, ◌<◌, T, length, get_or, take, replicate, Some}
 use Rattle.semantics.specs.Machine.{State, Program, begin, run}
 use Rattle.semantics.specs.EveryRun.{Outline, Holds}
 use Rattle.handover_spec.specs.Handover.{NewPoint, handed, across}
@@ -8,7 +8,6 @@ use Rattle.image_frames.specs.Records.{bodies}
 use Rattle.image_header.specs.declared.sizes.Sizes.{Sizes}
 use Rattle.image_meaning.specs.Program.{program_of, outline_of}
 use Rattle.checker_spec.specs.Acceptance.{acceptance}
-use Rattle.checker_spec.specs.declared.acceptance.Acceptance.TheVariants.{Granted}
 use Rattle.replay_memory.specs.declared.write.Write.{Write}
 use Rattle.handover_spec.specs.Table.{new_point}
 use Rattle.handover_spec.specs.Code.{handover_code}
@@ -82,15 +81,15 @@ pub record Promise (old new points first second given : List ℕ) (lent : ℕ) (
   -- 32, 33 and 34 in the place of 24
   pub refused : (handover_code old new points ≡ 0 → ⊥) → (a ≡ unpermitted (handover_code old new points)) × (shown ≡ [])
   -- "If the start writes don't fit, 29 comes before any step"
-  pub unfit : (z y : Sizes) → acceptance old ≡ Granted z → acceptance new ≡ Granted y → handover_code old new points ≡ 0
+  pub unfit : (z y : Sizes) → acceptance old ≡ Some z → acceptance new ≡ Some y → handover_code old new points ≡ 0
       → room_of lent < z.words
       → Unfit old z first given (room_of lent) a shown
   -- "a step refused in the first ends the run under the old code": the answer is that of replaying the first trace alone
-  pub stopped : (z y : Sizes) → acceptance old ≡ Granted z → acceptance new ≡ Granted y → handover_code old new points ≡ 0
+  pub stopped : (z y : Sizes) → acceptance old ≡ Some z → acceptance new ≡ Some y → handover_code old new points ≡ 0
       → z.words ≤ room_of lent
       → ((before old z new y points first second given (room_of lent)).code ≡ 0 → ⊥) → Replays old z first given (room_of lent) a shown
   -- no step of the first trace is refused
-  pub goes_on : (z y : Sizes) → acceptance old ≡ Granted z → acceptance new ≡ Granted y → handover_code old new points ≡ 0
+  pub goes_on : (z y : Sizes) → acceptance old ≡ Some z → acceptance new ≡ Some y → handover_code old new points ≡ 0
       → z.words ≤ room_of lent
       → (before old z new y points first second given (room_of lent)).code ≡ 0
       → Across old z new y points first second given (room_of lent) a shown

@@ -1,256 +1,205 @@
 // A replay across a handover: whether it is permitted, the start, and both runs.
-ghost use Rattle.std.specs.Prelude.{◌≡◌, ◌≤◌, min, length, replicate};
-ghost use Rattle.image_index.specs.IndexTable.{table_size, index_of};
+ghost use Rattle.std.specs.Prelude.{◌≡◌, ◌≤◌, min, length, replicate, Ok, Some};
+ghost use Rattle.image_index.specs.IndexTable.{table_size};
 ghost use Rattle.image.specs.Decode.{decoded};
-ghost use Rattle.image.specs.declared.decode.Decoded.TheVariants.{Sound};
 ghost use Rattle.checker_spec.specs.Acceptance.{acceptance};
-ghost use Rattle.checker_spec.specs.declared.acceptance.Acceptance.TheVariants.{Granted};
+ghost use Rattle.handover_spec.specs.Refusal.{number as handover_number};
+ghost use Rattle.replay_machine.specs.Refusal.{number};
+ghost use Rattle.replay_machine.specs.Replayed.{told};
 ghost use Rattle.replay_machine.specs.OutputTable.{shown_by};
 ghost use Rattle.handover_replay.specs.ReplayAcross.{refused_by, across_on, across_by, by_acceptance, across_of};
 
 use crate::onward::{go_on, run_counted};
 use checker::acceptance::accept_image;
-use checker_spec::acceptance::Acceptance;
-use handover::permit::{Handover, handover_code};
+use handover::permit::handover_code;
+use handover_spec::refusal::Refusal as HandoverRefusal;
 use image_header::sizes::Sizes;
-use image_index::look_up::body_of;
+use image_index::indexed::Indexed;
 use image_index::table::IndexSize;
 use replay_machine::output::{Shown, shown_by};
 use replay_machine::pick::Refusal;
 use replay_machine::replayed::{Replayed, room_of};
 use replay_machine::start::start_machine;
 
-// A replay that is refused with `code`: points and registers are 0, and the table stays. `image` is there to take empty slices from.
-fn refuse(image: &[u8], code: u8) -> Replayed
-    ensures { result ≡ refused_by code }
+// What the caller gives: the table of points, the trace for each image, and a byte for each register.
+#[derive(Clone, Copy)]
+pub struct Given<'a> {
+    pub points: &'a [u8],
+    pub first: &'a [u8],
+    pub second: &'a [u8],
+    pub registers: &'a [u8],
+}
+
+// No `From`: Rust takes an impl only in the crate of one of the two enums, and neither is of this crate.
+// A refused handover as a replay that is refused.
+fn refusal_of(refusal: HandoverRefusal) -> Refusal
+    ensures { number result ≡ handover_number refusal }
 {
-    Replayed {
-        code,
-        steps: 0,
-        held: false,
-        words: 0,
-        machine: start_machine(&image[0..0], 0, &image[0..0]),
+    match refusal {
+        HandoverRefusal::Unlike => Refusal::Unlike,
+        HandoverRefusal::OutOfRange => Refusal::OutOfRange,
+        HandoverRefusal::Unserved => Refusal::Unserved,
     }
 }
 
-// Runs both traces across a permitted handover; 29 if the start writes do not fit.
-fn run_both<'a, 'b, 'c, 'd, 'e, 'f, 'g, 'h>(
-    old: &'a [u8],
-    old_index: &'b [usize],
+// A replay that is refused: points and registers are 0, and the table stays.
+#[tactic(auto, using(crate::proofs::AcrossBranches::refused_so, limits::proofs::BranchTests::tests))]
+fn refuse(refusal: Refusal) -> Replayed
+    ensures { told result ≡ refused_by (number refusal) }
+{
+    Replayed {
+        ended: Err(refusal),
+        steps: 0,
+        held: false,
+        words: 0,
+        machine: start_machine(&[], 0, &[]),
+    }
+}
+
+// Runs both traces across a permitted handover; without room if the start writes do not fit.
+#[tactic(auto, using(crate::proofs::AcrossBranches::both_branches, limits::proofs::BranchTests::tests))]
+fn run_both(
+    old: &Indexed,
     old_sizes: Sizes,
-    new: &'c [u8],
-    new_index: &'d [usize],
+    new: &Indexed,
     new_sizes: Sizes,
-    points: &'e [u8],
-    first: &'f [u8],
-    second: &'g [u8],
-    given: &'h [u8],
+    given: &Given,
     room: usize,
 ) -> Replayed
-    requires { ((old_index.now ≡ index_of old.now) × (decoded old.now ≡ Sound old_sizes))
-        × (new_index.now ≡ index_of new.now) }
-    ensures { result ≡ across_on old.now old_sizes new.now new_sizes points.now first.now
-        second.now
-        given.now room }
+    requires { decoded old.now ≡ Ok old_sizes }
+    ensures { told result ≡ across_on old.now old_sizes new.now new_sizes given.now.points.now given.now.first.now
+        given.now.second.now
+        given.now.registers.now room }
 {
-    let n = start_machine(body_of(old, old_index, 0), old_sizes.range, given);
-    if room < (old_sizes.words as usize) {
+    let machine = start_machine(old.body_of(0), old_sizes.range, given.registers);
+    if room < usize::from(old_sizes.words) {
         return Replayed {
-            code: Refusal::ROOM,
+            ended: Err(Refusal::Room),
             steps: 0,
             held: false,
             words: old_sizes.words,
-            machine: n,
+            machine,
         };
     }
-    let run = run_counted(old, old_index, old_sizes, room, n, first);
-    let q = go_on(
-        old, old_index, old_sizes, new, new_index, new_sizes, points, room, run, second,
+    let before = run_counted(old, old_sizes, room, machine, given.first);
+    let run = go_on(
+        old,
+        old_sizes,
+        new,
+        new_sizes,
+        given.points,
+        room,
+        before,
+        given.second,
     );
-    let machine = q.machine;
     Replayed {
-        code: q.code,
-        steps: q.steps,
+        ended: run.ended,
+        steps: run.steps,
         held: true,
         words: old_sizes.words,
-        machine,
+        machine: run.machine,
     }
 }
 
 // Replays across a handover between two accepted images, if it is permitted.
-fn replay_between<'a, 'b, 'c, 'd, 'e, 'f, 'g, 'h>(
-    old: &'a [u8],
-    old_index: &'b [usize],
+#[tactic(auto, using(crate::proofs::AcrossBranches::between_branches, limits::proofs::BranchTests::tests))]
+fn replay_between(
+    old: &Indexed,
     old_sizes: Sizes,
-    new: &'c [u8],
-    new_index: &'d [usize],
+    new: &Indexed,
     new_sizes: Sizes,
-    points: &'e [u8],
-    first: &'f [u8],
-    second: &'g [u8],
-    given: &'h [u8],
+    given: &Given,
     room: usize,
 ) -> Replayed
-    requires { ((old_index.now ≡ index_of old.now) × (decoded old.now ≡ Sound old_sizes))
-        × ((new_index.now ≡ index_of new.now) × (decoded new.now ≡ Sound new_sizes)) }
-    ensures { result ≡ across_by old.now old_sizes new.now new_sizes points.now first.now
-        second.now
-        given.now room }
+    requires { (decoded old.now ≡ Ok old_sizes) × (decoded new.now ≡ Ok new_sizes) }
+    ensures { told result ≡ across_by old.now old_sizes new.now new_sizes given.now.points.now given.now.first.now
+        given.now.second.now
+        given.now.registers.now room }
 {
-    let code = handover_code(old, old_index, old_sizes, new, new_index, new_sizes, points);
-    if code == Handover::PERMITTED {
-        return run_both(
-            old, old_index, old_sizes, new, new_index, new_sizes, points, first, second, given,
-            room,
-        );
+    match handover_code(old, old_sizes, new, new_sizes, given.points) {
+        Ok(()) => run_both(old, old_sizes, new, new_sizes, given, room),
+        Err(refusal) => refuse(refusal_of(refusal)),
     }
-    refuse(old, code as u8)
 }
 
+// The caller lends the index: memory is fixed, and a struct that lends it on would only rename the fact that it is zeros.
 // Replays from an accepted image, with `new_index` as scratch memory: zeros, table_size(new) of them.
-fn replay_from_by<'a, 'b, 'c, 'd, 'e, 'f, 'g, 'h>(
-    old: &'a [u8],
-    old_index: &'b [usize],
+#[tactic(auto, using(crate::proofs::AcrossBranches::from_branches, limits::proofs::BranchTests::tests))]
+fn replay_from_by(
+    old: &Indexed,
     sizes: Sizes,
-    new: &'c [u8],
-    new_index: &'h mut [usize],
-    points: &'d [u8],
-    first: &'e [u8],
-    second: &'f [u8],
-    given: &'g [u8],
+    new: &[u8],
+    new_index: &mut [usize],
+    given: &Given,
     room: usize,
 ) -> Replayed
-    requires { ((old_index.now ≡ index_of old.now) × (decoded old.now ≡ Sound sizes))
-        × (new_index.old ≡ replicate (table_size new.now) 0) }
-    ensures { result ≡ by_acceptance old.now new.now points.now first.now second.now
-        given.now room (Granted sizes) (acceptance new.now) }
+    requires { (decoded old.now ≡ Ok sizes) × (new_index.old ≡ replicate (table_size new.now) 0) }
+    ensures { told result ≡ by_acceptance old.now new.now given.now.points.now given.now.first.now given.now.second.now
+        given.now.registers.now room (Some sizes) (acceptance new.now) }
 {
-    match accept_image(new, new_index) {
-        Acceptance::Declined => refuse(new, Handover::UNLIKE as u8),
-        Acceptance::Granted(new_sizes) => {
-            replay_between(
-                old, old_index, sizes, new, new_index, new_sizes, points, first, second, given,
-                room,
-            )
-        }
-    }
+    let Some(new_sizes) = accept_image(new, new_index) else {
+        return refuse(Refusal::Unlike);
+    };
+    let new = Indexed::new(new, new_index);
+    replay_between(old, sizes, &new, new_sizes, given, room)
 }
 
-// Replays from an accepted image, whose index and sizes are known.
-fn replay_from<'a, 'b, 'c, 'd, 'e, 'f, 'g>(
-    old: &'a [u8],
-    old_index: &'b [usize],
-    sizes: Sizes,
-    new: &'c [u8],
-    points: &'d [u8],
-    first: &'e [u8],
-    second: &'f [u8],
-    given: &'g [u8],
-    room: usize,
-) -> Replayed
-    requires { (old_index.now ≡ index_of old.now) × (decoded old.now ≡ Sound sizes) }
-    ensures { result ≡ by_acceptance old.now new.now points.now first.now second.now
-        given.now room (Granted sizes) (acceptance new.now) }
+// Replays from an accepted image, whose sizes are known.
+#[tactic(auto, using(handover_spec::proofs::PermittedRuns::zeros))]
+fn replay_from(old: &Indexed, sizes: Sizes, new: &[u8], given: &Given, room: usize) -> Replayed
+    requires { decoded old.now ≡ Ok sizes }
+    ensures { told result ≡ by_acceptance old.now new.now given.now.points.now given.now.first.now given.now.second.now
+        given.now.registers.now room (Some sizes) (acceptance new.now) }
 {
     if new.len() <= IndexSize::SHORT_IMAGE {
         let mut new_index = [0usize; IndexSize::SHORT];
-        return replay_from_by(
-            old,
-            old_index,
-            sizes,
-            new,
-            &mut new_index,
-            points,
-            first,
-            second,
-            given,
-            room,
-        );
+        return replay_from_by(old, sizes, new, &mut new_index, given, room);
     }
     let mut new_index = [0usize; IndexSize::LONG];
-    replay_from_by(
-        old,
-        old_index,
-        sizes,
-        new,
-        &mut new_index,
-        points,
-        first,
-        second,
-        given,
-        room,
-    )
+    replay_from_by(old, sizes, new, &mut new_index, given, room)
 }
 
 // Replays with `old_index` as scratch memory: zeros, table_size(old) of them.
-fn replay_across_by<'a, 'b, 'c, 'd, 'e, 'f, 'g>(
-    old: &'a [u8],
-    old_index: &'g mut [usize],
-    new: &'b [u8],
-    points: &'c [u8],
-    first: &'d [u8],
-    second: &'e [u8],
-    given: &'f [u8],
+#[tactic(auto, using(crate::proofs::AcrossBranches::across_branches, limits::proofs::BranchTests::tests))]
+fn replay_across_by(
+    old: &[u8],
+    old_index: &mut [usize],
+    new: &[u8],
+    given: &Given,
     lent: usize,
 ) -> Replayed
     requires { old_index.old ≡ replicate (table_size old.now) 0 }
-    ensures { result ≡ across_of old.now new.now points.now first.now second.now
-        given.now lent }
+    ensures { told result ≡ across_of old.now new.now given.now.points.now given.now.first.now given.now.second.now
+        given.now.registers.now lent }
 {
     match accept_image(old, old_index) {
-        Acceptance::Declined => refuse(old, Handover::UNLIKE as u8),
-        Acceptance::Granted(sizes) => {
-            replay_from(
-                old,
-                old_index,
-                sizes,
-                new,
-                points,
-                first,
-                second,
-                given,
-                room_of(lent),
-            )
+        None => refuse(Refusal::Unlike),
+        Some(sizes) => {
+            let old = Indexed::new(old, old_index);
+            replay_from(&old, sizes, new, given, room_of(lent))
         }
     }
 }
 
 // Replays both traces; `lent` is the number of entries in the caller's table of writes.
-pub fn replay_across<'a, 'b, 'c, 'd, 'e, 'f>(
-    old: &'a [u8],
-    new: &'b [u8],
-    points: &'c [u8],
-    first: &'d [u8],
-    second: &'e [u8],
-    given: &'f [u8],
-    lent: usize,
-) -> Replayed
-    ensures { result ≡ across_of old.now new.now points.now first.now second.now
-        given.now lent }
+#[tactic(auto, using(handover_spec::proofs::PermittedRuns::zeros))]
+pub fn replay_across(old: &[u8], new: &[u8], given: &Given, lent: usize) -> Replayed
+    ensures { told result ≡ across_of old.now new.now given.now.points.now given.now.first.now given.now.second.now
+        given.now.registers.now lent }
 {
     if old.len() <= IndexSize::SHORT_IMAGE {
         let mut old_index = [0usize; IndexSize::SHORT];
-        return replay_across_by(old, &mut old_index, new, points, first, second, given, lent);
+        return replay_across_by(old, &mut old_index, new, given, lent);
     }
     let mut old_index = [0usize; IndexSize::LONG];
-    replay_across_by(old, &mut old_index, new, points, first, second, given, lent)
+    replay_across_by(old, &mut old_index, new, given, lent)
 }
 
 // The answer of the replay, and the writes for the caller's table of `lent` entries.
-pub fn shown_across<'a, 'b, 'c, 'd, 'e, 'f>(
-    old: &'a [u8],
-    new: &'b [u8],
-    points: &'c [u8],
-    first: &'d [u8],
-    second: &'e [u8],
-    given: &'f [u8],
-    lent: usize,
-) -> Shown
-    ensures { (result ≡ shown_by (across_of old.now new.now points.now first.now
-        second.now given.now lent) lent) × ((result.count ≤ min lent 64) × (length result.writes ≡ 64)) }
+#[tactic(auto, using(replay_machine::proofs::OutputBranches::shown_same, limits::proofs::BranchTests::tests))]
+pub fn shown_across(old: &[u8], new: &[u8], given: &Given, lent: usize) -> Shown
+    ensures { (result ≡ shown_by (across_of old.now new.now given.now.points.now given.now.first.now
+        given.now.second.now given.now.registers.now lent) lent) × ((result.count ≤ min lent 64) × (length result.writes ≡ 64)) }
 {
-    shown_by(
-        replay_across(old, new, points, first, second, given, lent),
-        lent,
-    )
+    shown_by(replay_across(old, new, given, lent), lent)
 }

@@ -1,50 +1,36 @@
 // The state at the handover: the same memory, views and registers, and mapped points.
-ghost use Rattle.std.specs.Prelude.{◌≡◌, ◌<◌};
-ghost use Rattle.image_frames.specs.Records.{bodies};
-ghost use Rattle.image_index.specs.IndexTable.{index_of};
+ghost use Rattle.std.specs.Prelude.{◌≡◌, Ok};
 ghost use Rattle.image.specs.Decode.{decoded};
-ghost use Rattle.image.specs.declared.decode.Decoded.TheVariants.{Sound};
-ghost use Rattle.image_access.specs.Totals.{totals_of};
 ghost use Rattle.handover_replay.specs.JoinedRun.{mapped_point, handed_over};
 
 use handover_spec::entries::point_named;
 use handover_spec::points::points_before;
-use image_access::totals::{Totals, totals_of};
+use image_access::totals::Counted;
 use image_header::sizes::Sizes;
+use image_index::indexed::Indexed;
 use replay_machine::state::Machine;
 
+// `Counted` is made of images that no one has decoded, too, so that these are decoded stands in the clauses.
 // The new point of thread `t`, counted from 0, for the old `point`; a thread that does not exist has point 0.
-fn mapped_point<'a, 'b, 'c>(
-    old: &'a [u8],
-    old_index: &'b [usize],
-    sizes: Sizes,
-    totals: Totals,
-    table: &'c [u8],
-    t: u8,
-    point: u8,
-) -> u8
-    requires { (old_index.now ≡ index_of old.now) × ((decoded old.now ≡ Sound sizes) × (totals ≡ totals_of sizes (bodies old.now))) }
-    ensures { result ≡ mapped_point old.now sizes table.now t point }
+#[tactic(auto, using(crate::proofs::JoinedBranches::mapped_branches, limits::proofs::BranchTests::tests))]
+fn mapped_point(old: &Counted, table: &[u8], t: u8, point: u8) -> u8
+    requires { decoded old.now.image.now ≡ Ok old.now.sizes }
+    ensures { result ≡ mapped_point old.now.image.now old.now.sizes table.now t point }
 {
-    if sizes.threads <= t {
+    if old.sizes.threads <= t {
         return 0;
     }
-    let n = points_before(old, old_index, sizes, totals, (t as usize) + 1);
-    point_named(table, n + (point as usize)) as u8
+    let n = points_before(old, usize::from(t) + 1);
+    point_named(table, n + usize::from(point)) as u8
 }
 
 // The machine after the handover: the table maps the points, and everything else stays.
-pub fn hand_over<'a, 'b, 'c>(
-    old: &'a [u8],
-    old_index: &'b [usize],
-    sizes: Sizes,
-    table: &'c [u8],
-    machine: Machine,
-) -> Machine
-    requires { (old_index.now ≡ index_of old.now) × (decoded old.now ≡ Sound sizes) }
+#[tactic(auto, using(crate::proofs::JoinedBranches::handed_so, limits::proofs::BranchTests::tests))]
+pub fn hand_over(old: &Indexed, sizes: Sizes, table: &[u8], machine: Machine) -> Machine
+    requires { decoded old.now ≡ Ok sizes }
     ensures { result ≡ handed_over old.now sizes table.now machine }
 {
-    let totals = totals_of(old, old_index, sizes);
+    let records = Counted::new(old, sizes);
     let p = machine.points;
     let memory = machine.memory;
     let registers = machine.registers;
@@ -52,10 +38,10 @@ pub fn hand_over<'a, 'b, 'c>(
         memory,
         registers,
         points: [
-            mapped_point(old, old_index, sizes, totals, table, 0, p[0]),
-            mapped_point(old, old_index, sizes, totals, table, 1, p[1]),
-            mapped_point(old, old_index, sizes, totals, table, 2, p[2]),
-            mapped_point(old, old_index, sizes, totals, table, 3, p[3]),
+            mapped_point(&records, table, 0, p[0]),
+            mapped_point(&records, table, 1, p[1]),
+            mapped_point(&records, table, 2, p[2]),
+            mapped_point(&records, table, 3, p[3]),
         ],
     }
 }

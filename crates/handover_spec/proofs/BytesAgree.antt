@@ -1,13 +1,10 @@
 -- Byte strings that are compared: the same exactly if they are as long and agree at each place.
 use mathlib.Core.Path.{◌≡◌, refl, ap, ap₂, sym, ◌∙◌, subst}
-use mathlib.Core.Bool.{Bool, true, false}
+use mathlib.Core.Bool.{Bool, true, ◌&&◌}
 use mathlib.Core.List.{List, [], ◌∷◌}
-use Prim.Native.Nat.{ℕ, ◌+◌, ◌≤◌, ◌<◌}
-use native.Mathlib.Omega.{arith}
+use Prim.Native.Nat.{ℕ}
 use lib.Dec.{T, eqb, eqb→eq, eqb_refl}
-use lib.ListN.{length, get_or}
-use borrow.Author.Tests.{eqb-true, eqb-false}
-use lib.Seq.{ext_get_or}
+use lib.Pointwise.{pointwise}
 use Rattle.semantics.specs.Formula.{same_bytes}
 use Rattle.semantics.proofs.Base.{and_left, and_right, and_both, holds_true, is_true}
 
@@ -28,27 +25,9 @@ module _ (a b : List ℕ) where
   pub equal_bytes : a ≡ b → same_bytes a b ≡ true
   equal_bytes e = holds_true (same_bytes a b) (subst (λ (l : List ℕ). T (same_bytes a l)) e (same_refl a))
 
-  pub unequal : (a ≡ b → ⊥) → false ≡ same_bytes a b
-  unequal h = go (same_bytes a b) refl
-    where
-      go : (x : Bool) → same_bytes a b ≡ x → false ≡ x
-      go true e = absurd (h (bytes_equal e))
-      go false e = refl
-
-  -- the ways through the loop
-  pub lengths_differ : (length a ≡ length b → ⊥) → false ≡ same_bytes a b
-  lengths_differ h = unequal (λ (e : a ≡ b). h (ap length e))
-
-  pub bytes_differ : (i x y : ℕ) → x ≡ get_or a i 0 → y ≡ get_or b i 0 → (x ≡ y → ⊥) → false ≡ same_bytes a b
-  bytes_differ i x y ex ey h = unequal (λ (e : a ≡ b). h (ex ∙ ap (λ (l : List ℕ). get_or l i 0) e ∙ sym ey))
-
-  pub bytes_agree : (i : ℕ) → length a ≡ length b → length a ≤ i → ((j : ℕ) → j < i → get_or a j 0 ≡ get_or b j 0) → true ≡ same_bytes a b
-  bytes_agree i e h g = sym (equal_bytes (ext_get_or 0 a b e (λ j c. g j (omega arith))))
-
-pub agree_more : (a b : List ℕ) (i x y : ℕ) → ((j : ℕ) → j < i → get_or a j 0 ≡ get_or b j 0) → x ≡ get_or a i 0 → y ≡ get_or b i 0 → x ≡ y
-    → (j : ℕ) → j < i + 1 → get_or a j 0 ≡ get_or b j 0
-agree_more a b i x y g ex ey e j c = go (eqb j i) refl
-  where
-    go : (x : Bool) → eqb j i ≡ x → get_or a j 0 ≡ get_or b j 0
-    go true q = subst (λ (k : ℕ). get_or a k 0 ≡ get_or b k 0) (sym (eqb-true j i q)) (sym ex ∙ e ∙ ey)
-    go false q = g j (let n = eqb-false j i q in omega arith)
+-- as the slices are compared, element by element
+pub by_elements : (a b : List ℕ) → pointwise eqb a b ≡ same_bytes a b
+by_elements [] [] = refl
+by_elements [] (y ∷ m) = refl
+by_elements (x ∷ l) [] = refl
+by_elements (x ∷ l) (y ∷ m) = ap (λ (u : Bool). eqb x y && u) (by_elements l m)

@@ -7,6 +7,7 @@ use native.Mathlib.Omega.{arith}
 use lib.Dec.{eqb, ltb}
 use lib.ListN.{length}
 use borrow.Author.Tests.{eqb-true, eq-eqb, ltb-true, lt-ltb, le-leb}
+use Rattle.std.specs.declared.result.Result.TheVariants.{Ok, Err}
 use Rattle.semantics.specs.Base.{Within}
 use Rattle.semantics.specs.Formula.{same_bytes}
 use Rattle.limits.specs.Numbers.{within}
@@ -15,7 +16,6 @@ use Rattle.image_frames.specs.Records.{bodies}
 use Rattle.image_header.specs.declared.sizes.Sizes.{Sizes}
 use Rattle.image_header.specs.Header.{thread_count}
 use Rattle.image.specs.Decode.{decoded, sizes_of}
-use Rattle.image.specs.declared.decode.Decoded.TheVariants.{Sound}
 use Rattle.logic_outline.specs.Verdict.{Image, line_code, Admitted}
 use Rattle.logic_outline.proofs.Accept.{code_bears, bears_code}
 use Rattle.image_meaning.specs.Program.{point_count, program_of}
@@ -24,6 +24,8 @@ use Rattle.image_meaning.proofs.RecordsChecked.{sound_checks}
 use Rattle.rules_justified.specs.Marks.{as_marks}
 use Rattle.rules_justified.specs.declared.marks.Marks.{Marks}
 use Rattle.rules_justified.specs.Justify.{marks_to}
+use Rattle.handover_spec.specs.declared.refusal.Refusal.TheVariants.{Unlike, OutOfRange, Unserved}
+use Rattle.handover_spec.specs.Refusal.{code_told}
 use Rattle.handover_spec.specs.Table.{entry_size, point_named, line_named, points_to, new_point, new_line, each}
 use Rattle.handover_spec.specs.Fits.{in_range, thread_fits, threads_fit, table_fits}
 use Rattle.handover_spec.specs.Code.{asked, serves, lines_serve, code_between, header_of, code_of}
@@ -101,7 +103,7 @@ module _ (D E : Image) (table : List ℕ) where
       go false b p q = out_of_range (λ (F : Fits D E table). true≢false (sym (fits_table F) ∙ p))
 
 -- equal headers have as many threads
-pub same_threads : (old : List ℕ) (z : Sizes) (new : List ℕ) (y : Sizes) → decoded old ≡ Sound z → decoded new ≡ Sound y
+pub same_threads : (old : List ℕ) (z : Sizes) (new : List ℕ) (y : Sizes) → decoded old ≡ Ok z → decoded new ≡ Ok y
     → header_of old ≡ header_of new → z.threads ≡ y.threads
 unfolding sizes_of
 same_threads old z new y e d h =
@@ -121,7 +123,7 @@ module _ (old : List ℕ) (z : Sizes) (new : List ℕ) (y : Sizes) (table : List
   P t = points_to (program_of z (bodies old)) t
 
   -- where the table fits, the lines serve as the code finds it
-  found_lines : decoded old ≡ Sound z → decoded new ≡ Sound y → z.threads ≡ y.threads → table_fits D E table ≡ true
+  found_lines : decoded old ≡ Ok z → decoded new ≡ Ok y → z.threads ≡ y.threads → table_fits D E table ≡ true
       → threads_serve old z new y (marks_to new y y.lines) table z.threads ≡ lines_serve D E table
   unfolding threads_serve thread_serves entries_serve entry_serves lines_serve
   found_lines e d same f =
@@ -145,11 +147,11 @@ module _ (old : List ℕ) (z : Sizes) (new : List ℕ) (y : Sizes) (table : List
   marks_found m v em ev = ev ∙ ap (λ (x : Marks). threads_serve old z new y x table z.threads) em
 
   module _ (u : Bool) (eu : u ≡ table_fits D E table) where
-    pub between_out : u ≡ false → 33 ≡ code_between D E table
+    pub between_out : u ≡ false → code_told (Err OutOfRange) ≡ code_between D E table
     unfolding code_between
     between_out h = rw (← eu, h)
 
-    module _ (v : Bool) (e : decoded old ≡ Sound z) (d : decoded new ≡ Sound y) (same : z.threads ≡ y.threads) (h : u ≡ true)
+    module _ (v : Bool) (e : decoded old ≡ Ok z) (d : decoded new ≡ Ok y) (same : z.threads ≡ y.threads) (h : u ≡ true)
         (ev : v ≡ threads_serve old z new y (marks_to new y y.lines) table z.threads) where
       served_is : v ≡ lines_serve D E table
       served_is = ev ∙ found_lines e d same (sym eu ∙ h)
@@ -158,20 +160,20 @@ module _ (old : List ℕ) (z : Sizes) (new : List ℕ) (y : Sizes) (table : List
       unfolding code_between
       between_is = rw (← eu, h, ← served_is)
 
-      pub between_served : v ≡ true → 0 ≡ code_between D E table
+      pub between_served : v ≡ true → code_told (Ok tt) ≡ code_between D E table
       between_served g = ap (λ (x : Bool). cond x 0 34) (sym g) ∙ between_is
 
-      pub between_unserved : v ≡ false → 34 ≡ code_between D E table
+      pub between_unserved : v ≡ false → code_told (Err Unserved) ≡ code_between D E table
       between_unserved g = ap (λ (x : Bool). cond x 0 34) (sym g) ∙ between_is
 
   module _ (a b : List ℕ) (u : Bool) (ea : a ≡ header_of old) (eb : b ≡ header_of new) (eu : u ≡ same_bytes a b) where
     headers_are : u ≡ same_bytes (header_of old) (header_of new)
     headers_are = eu ∙ ap₂ (λ (x w : List ℕ). same_bytes x w) ea eb
 
-    pub headers_threads : decoded old ≡ Sound z → decoded new ≡ Sound y → u ≡ true → z.threads ≡ y.threads
+    pub headers_threads : decoded old ≡ Ok z → decoded new ≡ Ok y → u ≡ true → z.threads ≡ y.threads
     headers_threads e d h = same_threads old z new y e d (bytes_equal (header_of old) (header_of new) (sym headers_are ∙ h))
 
-    pub headers_differ : u ≡ false → 32 ≡ code_of old z new y table
+    pub headers_differ : u ≡ false → code_told (Err Unlike) ≡ code_of old z new y table
     unfolding code_of
     headers_differ h = ap (λ (x : Bool). cond x (code_between D E table) 32) (sym h ∙ headers_are)
 

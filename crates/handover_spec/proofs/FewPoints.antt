@@ -3,6 +3,7 @@ use mathlib.Core.Path.{◌≡◌, refl, ap}
 use mathlib.Core.List.{List}
 use Prim.Native.Nat.{ℕ, zero, suc, ◌+◌, ◌-◌, ◌*◌, ◌≤◌}
 use native.Mathlib.Omega.{arith}
+use Rattle.std.specs.declared.result.Result.TheVariants.{Ok}
 use Rattle.limits.specs.Limits as Limits
 use Rattle.image_frames.specs.Records.{bodies}
 use Rattle.image_header.specs.declared.sizes.Sizes.{Sizes}
@@ -10,7 +11,6 @@ use Rattle.image_header.specs.Thread.{last_point}
 use Rattle.image_bodies.specs.RecordPlaces.{thread_body}
 use Rattle.image_bodies.specs.PointCounts.{thread_counts, point_counts_to, point_counts}
 use Rattle.image.specs.Decode.{decoded}
-use Rattle.image.specs.declared.decode.Decoded.TheVariants.{Sound}
 use Rattle.image_meaning.specs.Program.{point_count, program_of}
 use Rattle.image_access.specs.Totals.{totals_of}
 use Rattle.image_access.specs.declared.totals.Totals.{Totals}
@@ -32,7 +32,7 @@ points-below z l c (suc n) h =
     let q = points_few z l c (suc n) (omega arith) h in
     omega arith
 
-module _ (s : List ℕ) (z : Sizes) (e : decoded s ≡ Sound z) where
+module _ (s : List ℕ) (z : Sizes) (e : decoded s ≡ Ok z) where
   pub few_in_all : (c : Totals) → c ≡ totals_of z (bodies s) → c.points ≤ most_points
   unfolding totals_of point_counts
   few_in_all c q =
@@ -49,3 +49,5 @@ module _ (s : List ℕ) (z : Sizes) (e : decoded s ≡ Sound z) where
         let p = points-below z (bodies s) k (t - 1) (omega arith) in
         let f = few_threads s z k in
         omega arith
+
+pub ruleset few_branches = (few_in_all, few_before)

@@ -152,6 +152,6 @@ module _ (old : List ℕ) (z : Sizes) (new : List ℕ) (y : Sizes) (m : Marks) (
   unfolding threads_serve
   all_done t n h q a b = each_done each_thread t z.threads h (omega arith) (omega arith)
 
-pub ruleset entries_serve_branches = (serve_more, serve_stops, serve_done)
+pub ruleset entries_serve_branches = (serve_none, serve_more, serve_stops, serve_done)
 
-pub ruleset lines_serve_branches = (all_more, all_stop, all_done)
+pub ruleset lines_serve_branches = (all_none, all_more, all_stop, all_done)

@@ -4,19 +4,25 @@ use mathlib.Core.Bool.{Bool, true, false, cond}
 use mathlib.Core.List.{List, [], ◌∷◌}
 use Prim.Native.Nat.{ℕ, suc}
 use native.Mathlib.Omega.{arith}
+use Rattle.image_index.proofs.IndexBranches.{short_zeros, long_zeros}
+use Rattle.limits.proofs.BranchTests.{tests}
+use Rattle.std.specs.declared.result.Result.TheVariants.{Err, Ok}
+use Rattle.std.specs.declared.option.Option.{Option}
+use Rattle.std.specs.declared.option.Option.TheVariants.{None, Some}
 use Rattle.semantics.specs.Base.{All}
 use Rattle.semantics.specs.Formula.{same_bytes}
 use Rattle.logic.specs.Statement.{Statement}
 use Rattle.semantics.specs.Machine.{Program}
 use Rattle.logic.specs.Obligations.{Obligation, obligations}
 use Rattle.logic.specs.Derivation.{Derived, Proved}
+use Rattle.handover_spec.specs.declared.refusal.Refusal.TheVariants.{Unlike}
+use Rattle.handover_spec.specs.Refusal.{code_told}
 use Rattle.handover_spec.specs.Handover.{Handover, EveryRunAcross}
 use Rattle.handover_spec.proofs.RunsAcross.{every_run_across}
 use Rattle.image_frames.specs.Records.{bodies}
 use Rattle.image_header.specs.declared.sizes.Sizes.{Sizes}
 use Rattle.image_header.specs.Header.{word_count, value_range}
-use Rattle.image.specs.Decode.{decoded, sizes_of}
-use Rattle.image.specs.declared.decode.Decoded.{Decoded}
+use Rattle.image.specs.Decode.{Decoded, decoded, sizes_of}
 use Rattle.logic_outline.proofs.Marks.{justified_derived}
 use Rattle.logic_outline.specs.Verdict.{Image, Finding, accepted, unmet, denied, finding, asks, Bears, AllMet, Admitted}
 use Rattle.logic_outline.proofs.Accept.{judge_met, accepted_all}
@@ -27,8 +33,6 @@ use Rattle.image_meaning.proofs.Admitted.{sound_admitted}
 use Rattle.verdict_record.specs.declared.verdict.Verdict.TheVariants.{Accepted}
 use Rattle.checker_spec.specs.ImageVerdict.{judged, answered, verdict}
 use Rattle.checker_spec.specs.Acceptance.{accepted_as, acceptance}
-use Rattle.checker_spec.specs.declared.acceptance.Acceptance.{Acceptance}
-use Rattle.checker_spec.specs.declared.acceptance.Acceptance.TheVariants.{Granted, Declined}
 use Rattle.checker_spec.proofs.AcceptedHolds.{granted_holds}
 use Rattle.handover_spec.specs.Table.{new_point}
 use Rattle.handover_spec.specs.Code.{code_between, header_of, code_of, by_acceptance, handover_code}
@@ -51,7 +55,7 @@ accepted_found D (accepted m) n e = let q : m ≡ n = cc in ap accepted q
 accepted_found D (unmet c o l m) n e = let x : ◌≡◌ {A = ℕ} 0 1 = cc in absurd (omega arith)
 accepted_found D (denied i m) n e = let x : ◌≡◌ {A = ℕ} 0 1 = cc in absurd (omega arith)
 
-pub accepted_proved : (s : List ℕ) (z : Sizes) → acceptance s ≡ Granted z → Proved (program_of z (bodies s)) (outline_of z (bodies s))
+pub accepted_proved : (s : List ℕ) (z : Sizes) → acceptance s ≡ Some z → Proved (program_of z (bodies s)) (outline_of z (bodies s))
 unfolding verdict
 accepted_proved s z e =
     let g = granted_holds s z e in
@@ -62,8 +66,8 @@ accepted_proved s z e =
 
 -- two accepted images with equal headers
 
-module _ (old : List ℕ) (z : Sizes) (new : List ℕ) (y : Sizes) (table : List ℕ) (a : acceptance old ≡ Granted z)
-    (b : acceptance new ≡ Granted y) where
+module _ (old : List ℕ) (z : Sizes) (new : List ℕ) (y : Sizes) (table : List ℕ) (a : acceptance old ≡ Some z)
+    (b : acceptance new ≡ Some y) where
   abbrev P : Program
   P = program_of z (bodies old)
 
@@ -76,10 +80,10 @@ module _ (old : List ℕ) (z : Sizes) (new : List ℕ) (y : Sizes) (table : List
   abbrev E : Image
   E = image_of y (bodies new)
 
-  old_sound : decoded old ≡ Decoded.Sound z
+  old_sound : decoded old ≡ Ok z
   old_sound = (granted_holds old z a).sound
 
-  new_sound : decoded new ≡ Decoded.Sound y
+  new_sound : decoded new ≡ Ok y
   new_sound = (granted_holds new y b).sound
 
   pub permitted_so : header_of old ≡ header_of new → Fits D E table → Serve D E table
@@ -148,7 +152,7 @@ module _ (old : List ℕ) (z : Sizes) (new : List ℕ) (y : Sizes) (table : List
 -- what an image that is accepted says is what its records hold
 record Said (s : List ℕ) (D : Image) : Type 0 where
   sizes : Sizes
-  granted : acceptance s ≡ Granted sizes
+  granted : acceptance s ≡ Some sizes
   same : image_of sizes (bodies s) ≡ D
 
 said : (s : List ℕ) (D : Image) (n : ℕ) → decode s ≡ read D → verdict s ≡ Accepted n → Said s D
@@ -156,11 +160,11 @@ unfolding acceptance decode
 said s D n e v = go (decoded s) refl e
   where
     go : (d : Decoded) → decoded s ≡ d → result_of (bodies s) d ≡ read D → Said s D
-    go (Decoded.Refused f i) h q = let x : ◌≡◌ {A = ℕ} 0 1 = cc in absurd (omega arith)
-    go (Decoded.Sound z) h q = record { sizes = z; granted = ap₂ accepted_as h v; same = cc }
+    go (Err r) h q = let x : ◌≡◌ {A = ℕ} 0 1 = cc in absurd (omega arith)
+    go (Ok z) h q = record { sizes = z; granted = ap₂ accepted_as h v; same = cc }
 
 module _ (old new table : List ℕ) where
-  code_is : (x w : Acceptance) → acceptance old ≡ x → acceptance new ≡ w → handover_code old new table ≡ by_acceptance old new table x w
+  code_is : (x w : Option Sizes) → acceptance old ≡ x → acceptance new ≡ w → handover_code old new table ≡ by_acceptance old new table x w
   unfolding handover_code
   code_is x w e d = ap₂ (by_acceptance old new table) e d
 
@@ -170,31 +174,31 @@ module _ (old new table : List ℕ) where
     where
       go : Said old D → Said new E → Decided D E table (handover_code old new table)
       go x w =
-          subst (Decided D E table) (sym (code_is (Granted x.sizes) (Granted w.sizes) x.granted w.granted))
+          subst (Decided D E table) (sym (code_is (Some x.sizes) (Some w.sizes) x.granted w.granted))
           (subst₂ (λ (C F : Image). Decided C F table (code_of old x.sizes new w.sizes table)) x.same w.same
           (same_decided old x.sizes new w.sizes table x.granted w.granted B.headers))
 
   otherwise_so : ((D E : Image) → BothAccepted old new D E → ⊥) → handover_code old new table ≡ 32
   otherwise_so g = go (acceptance old) (acceptance new) refl refl
     where
-      go : (x w : Acceptance) → acceptance old ≡ x → acceptance new ≡ w → handover_code old new table ≡ 32
-      go Declined w e d = code_is Declined w e d
-      go (Granted z) Declined e d = code_is (Granted z) Declined e d
-      go (Granted z) (Granted y) e d = code_is (Granted z) (Granted y) e d ∙ other_unlike old z new y table e d
+      go : (x w : Option Sizes) → acceptance old ≡ x → acceptance new ≡ w → handover_code old new table ≡ 32
+      go None w e d = code_is None w e d
+      go (Some z) None e d = code_is (Some z) None e d
+      go (Some z) (Some y) e d = code_is (Some z) (Some y) e d ∙ other_unlike old z new y table e d
           (g (image_of z (bodies old)) (image_of y (bodies new)))
 
   across_so : handover_code old new table ≡ 0 → TrueAcross old new table
   across_so q = go (acceptance old) (acceptance new) refl refl
     where
-      go : (x w : Acceptance) → acceptance old ≡ x → acceptance new ≡ w → TrueAcross old new table
-      go Declined w e d = let p = sym (code_is Declined w e d) ∙ q in absurd (omega arith)
-      go (Granted z) Declined e d = let p = sym (code_is (Granted z) Declined e d) ∙ q in absurd (omega arith)
-      go (Granted z) (Granted y) e d = record {
+      go : (x w : Option Sizes) → acceptance old ≡ x → acceptance new ≡ w → TrueAcross old new table
+      go None w e d = let p = sym (code_is None w e d) ∙ q in absurd (omega arith)
+      go (Some z) None e d = let p = sym (code_is (Some z) None e d) ∙ q in absurd (omega arith)
+      go (Some z) (Some y) e d = record {
         content = image_of z (bodies old);
         following = image_of y (bodies new);
         says = (granted_holds old z e).says;
         follows = (granted_holds new y d).says;
-        holds = across_holds old z new y table e d (sym (code_is (Granted z) (Granted y) e d) ∙ q);
+        holds = across_holds old z new y table e d (sym (code_is (Some z) (Some y) e d) ∙ q);
       }
 
   promised : (code : ℕ) → code ≡ handover_code old new table → Promise old new table code
@@ -207,21 +211,29 @@ module _ (old new table : List ℕ) where
 
   -- the ways through the entry point
 
-  module _ (x : Acceptance) (ex : x ≡ acceptance old) where
-    pub old_declined : x ≡ Declined → Promise old new table 32
-    old_declined h = promised 32 (sym (code_is Declined (acceptance new) (sym ex ∙ h) refl))
+  module _ (x : Option Sizes) (ex : x ≡ acceptance old) where
+    pub old_declined : x ≡ None → Promise old new table (code_told (Err Unlike))
+    old_declined h = promised 32 (sym (code_is None (acceptance new) (sym ex ∙ h) refl))
 
-    pub old_granted : (z : Sizes) (r : ℕ) → x ≡ Granted z → r ≡ by_acceptance old new table (Granted z) (acceptance new)
+    pub old_granted : (z : Sizes) (r : ℕ) → x ≡ Some z → r ≡ by_acceptance old new table (Some z) (acceptance new)
         → Promise old new table r
-    old_granted z r h q = promised r (q ∙ sym (code_is (Granted z) (acceptance new) (sym ex ∙ h) refl))
+    old_granted z r h q = promised r (q ∙ sym (code_is (Some z) (acceptance new) (sym ex ∙ h) refl))
 
-  module _ (z : Sizes) (w : Acceptance) (ew : w ≡ acceptance new) where
-    pub new_declined : w ≡ Declined → 32 ≡ by_acceptance old new table (Granted z) (acceptance new)
-    new_declined g = ap (by_acceptance old new table (Granted z)) (sym g ∙ ew)
+  module _ (z : Sizes) (w : Option Sizes) (ew : w ≡ acceptance new) where
+    pub new_declined : w ≡ None → code_told (Err Unlike) ≡ by_acceptance old new table (Some z) (acceptance new)
+    new_declined g = ap (by_acceptance old new table (Some z)) (sym g ∙ ew)
 
-    pub new_granted : (y : Sizes) (r : ℕ) → w ≡ Granted y → r ≡ code_of old z new y table
-        → r ≡ by_acceptance old new table (Granted z) (acceptance new)
-    new_granted y r g q = q ∙ ap (by_acceptance old new table (Granted z)) (sym g ∙ ew)
+    pub new_granted : (y : Sizes) (r : ℕ) → w ≡ Some y → r ≡ code_of old z new y table
+        → r ≡ by_acceptance old new table (Some z) (acceptance new)
+    new_granted y r g q = q ∙ ap (by_acceptance old new table (Some z)) (sym g ∙ ew)
 
-pub granted_sound : (s : List ℕ) (x : Acceptance) (z : Sizes) → x ≡ acceptance s → x ≡ Granted z → decoded s ≡ Decoded.Sound z
+pub granted_sound : (s : List ℕ) (x : Option Sizes) (z : Sizes) → x ≡ acceptance s → x ≡ Some z → decoded s ≡ Ok z
 granted_sound s x z e h = (granted_holds s z (sym e ∙ h)).sound
+
+pub ruleset old_by = (old_declined, old_granted, granted_sound)
+
+pub ruleset new_by = (new_declined, new_granted, granted_sound)
+
+-- an index that is lent has as many zeros as a table of its image
+
+pub ruleset zeros = (short_zeros, long_zeros, tests)

@@ -68,7 +68,7 @@ module _ (table : List ℕ) (last lines from : ℕ) where
   unfolding entries_fit
   fit_done k n h a b = each_done fit k n h a b
 
-pub ruleset entries_fit_branches = (fit_more, fit_stops, fit_done)
+pub ruleset entries_fit_branches = (fit_none, fit_more, fit_stops, fit_done)
 
 -- the table
 
@@ -141,4 +141,6 @@ module _ (old : List ℕ) (z : Sizes) (new : List ℕ) (y : Sizes) (table : List
     table_long r h g = rw (eq-eqb (length table) (entry_size * points_to (program_of z (bodies old)) z.threads)
         (h ∙ ap (λ (k : ℕ). entry_size * k) size_is)) g
 
-pub ruleset threads_fit_branches = (threads_more, threads_stop, threads_done)
+pub ruleset table_fits_branches = (table_other, table_long)
+
+pub ruleset threads_fit_branches = (threads_none, threads_more, threads_stop, threads_done)

@@ -1,6 +1,6 @@
 -- The codes of a handover: "32 an image not accepted or the two unlike, first; 33 table too short, too long or anywhere out of range (line
 -- 0 too), before any 34; 34 a named line doesn't serve"; 0 permitted.
-use Rattle.std.specs.Prelude.{Bool, cond, List, [], ℕ, suc, eqb, get_or}
+use Rattle.std.specs.Prelude.{Bool, cond, List, [], ℕ, suc, eqb, get_or, None, Option, Some}
 use Rattle.semantics.specs.Formula.{same_bytes}
 use Rattle.logic.specs.Statement.{Statement, implies}
 use Rattle.image_frames.specs.Records.{bodies}
@@ -8,8 +8,6 @@ use Rattle.image_header.specs.declared.sizes.Sizes.{Sizes}
 use Rattle.logic_outline.specs.Verdict.{Image, line_code}
 use Rattle.image_meaning.specs.Image.{image_of}
 use Rattle.checker_spec.specs.Acceptance.{acceptance}
-use Rattle.checker_spec.specs.declared.acceptance.Acceptance.{Acceptance}
-use Rattle.checker_spec.specs.declared.acceptance.Acceptance.TheVariants.{Granted, Declined}
 use Rattle.handover_spec.specs.Table.{new_point, new_line, each}
 use Rattle.handover_spec.specs.Fits.{table_fits}
 
@@ -41,10 +39,10 @@ code_of old z new y table = cond (same_bytes (header_of old) (header_of new))
     (code_between (image_of z (bodies old)) (image_of y (bodies new)) table) 32
 
 -- the code by the acceptance of the old and of the new image
-abbrev pub by_acceptance : List ℕ → List ℕ → List ℕ → Acceptance → Acceptance → ℕ
-by_acceptance old new table Declined b = 32
-by_acceptance old new table (Granted z) Declined = 32
-by_acceptance old new table (Granted z) (Granted y) = code_of old z new y table
+abbrev pub by_acceptance : List ℕ → List ℕ → List ℕ → Option Sizes → Option Sizes → ℕ
+by_acceptance old new table None b = 32
+by_acceptance old new table (Some z) None = 32
+by_acceptance old new table (Some z) (Some y) = code_of old z new y table
 
 -- the code for every two byte strings and every table
 unfoldable pub handover_code : List ℕ → List ℕ → List ℕ → ℕ

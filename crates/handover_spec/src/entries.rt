@@ -1,4 +1,6 @@
 // The entries of a handover table, three bytes each: a new point, and a line of the new image (16 bits).
+#![tactic(auto, using(crate::proofs::TableBranches::entries_branches, limits::proofs::BranchTests::tests))]
+
 ghost use Rattle.std.specs.Prelude.{◌≡◌, ◌+◌, ◌<◌};
 ghost use Rattle.handover_spec.specs.Table.{point_named, line_named};
 ghost use Rattle.handover_spec.specs.Fits.{entry_fits, entries_fit};
@@ -14,6 +16,7 @@ impl Entry {
     pub const SIZE: usize = 3;
 }
 
+// The bound keeps the sum for the place in the table within its type; a number type for it would be unwrapped in every line.
 // The new point in entry `i`.
 pub fn point_named(table: &[u8], i: usize) -> usize
     requires { i < 65536 }
@@ -35,22 +38,17 @@ fn entry_fits(table: &[u8], last: usize, lines: usize, i: usize) -> bool
     requires { i < 65536 }
     ensures { result ≡ entry_fits table.now last lines i }
 {
-    if last < point_named(table, i) {
-        return false;
-    }
-    in_range(line_named(table, i), 1, lines)
+    point_named(table, i) <= last && in_range(line_named(table, i), 1, lines)
 }
 
 // Entries `from` to `from + n - 1` all name a point up to `last` and a line from 1 to `lines`.
+#[tactic(auto, using(crate::proofs::TableBranches::entries_fit_branches, limits::proofs::BranchTests::tests))]
 pub fn entries_fit(table: &[u8], last: usize, lines: usize, from: usize, n: usize) -> bool
     requires { from + n < 65536 }
     ensures { result ≡ entries_fit table.now last lines from n }
 {
-    let mut k: usize = 0;
-    while k < n {
-        if entry_fits(table, last, lines, from + k) {
-            k += 1;
-        } else {
+    for k in 0..n {
+        if !entry_fits(table, last, lines, from + k) {
             return false;
         }
     }

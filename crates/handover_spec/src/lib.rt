@@ -9,3 +9,6 @@ pub mod table;
 
 // The lines that the table of a handover names: whether each is a justified implication from the old point's assertion to the new one's.
 pub mod lines;
+
+// Why a handover is refused.
+pub mod refusal;

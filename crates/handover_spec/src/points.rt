@@ -1,36 +1,28 @@
 // Numbers of points, in total and before a thread, with a bound that every well-formed image keeps.
-ghost use Rattle.std.specs.Prelude.{◌≡◌, ◌-◌, ◌≤◌};
+#![tactic(auto, using(crate::proofs::FewPoints::few_branches, limits::proofs::BranchTests::tests))]
+
+ghost use Rattle.std.specs.Prelude.{◌≡◌, ◌-◌, ◌≤◌, Ok};
 ghost use Rattle.image_frames.specs.Records.{bodies};
-ghost use Rattle.image_index.specs.IndexTable.{index_of};
 ghost use Rattle.image_bodies.specs.PointCounts.{point_counts_to};
 ghost use Rattle.image.specs.Decode.{decoded};
-ghost use Rattle.image.specs.declared.decode.Decoded.TheVariants.{Sound};
-ghost use Rattle.image_access.specs.Totals.{totals_of};
 ghost use Rattle.handover_spec.specs.Table.{most_points};
 
-use image_access::totals::{Totals, before_thread};
-use image_header::sizes::Sizes;
+use image_access::totals::Counted;
 
-// The number of points of all threads. The function adds the bound, which `totals` alone does not have.
-pub fn points_in(image: &[u8], sizes: Sizes, totals: Totals) -> usize
-    requires { (decoded image.now ≡ Sound sizes) × (totals ≡ totals_of sizes (bodies image.now)) }
-    ensures { (result ≡ totals.points) × (result ≤ most_points) }
+// `Counted` is made of images that no one has decoded, too, so that these are decoded stands in the clauses.
+// The number of points of all threads. The function adds the bound, which the totals alone do not have.
+pub fn points_in(records: &Counted) -> usize
+    requires { decoded records.now.image.now ≡ Ok records.now.sizes }
+    ensures { (result ≡ records.now.totals.points) × (result ≤ most_points) }
 {
-    totals.points
+    records.totals.points
 }
 
 // The number of points of the threads before thread `t`, with the bound.
-pub fn points_before<'a, 'b>(
-    image: &'a [u8],
-    index: &'b [usize],
-    sizes: Sizes,
-    totals: Totals,
-    t: usize,
-) -> usize
-    requires { ((index.now ≡ index_of image.now) × ((decoded image.now ≡ Sound sizes)
-        × (totals ≡ totals_of sizes (bodies image.now))))
-        × ((1 ≤ t) × (t ≤ sizes.threads)) }
-    ensures { (result ≡ (point_counts_to sizes (bodies image.now) (t - 1)).points) × (result ≤ most_points) }
+pub fn points_before(records: &Counted, t: usize) -> usize
+    requires { (decoded records.now.image.now ≡ Ok records.now.sizes) × ((1 ≤ t) × (t ≤ records.now.sizes.threads)) }
+    ensures { (result ≡ (point_counts_to records.now.sizes (bodies records.now.image.now) (t - 1)).points)
+        × (result ≤ most_points) }
 {
-    before_thread(image, index, sizes, totals, t)
+    records.before_thread(t)
 }

@@ -6,6 +6,7 @@ ghost use Rattle.handover_spec.specs.Promise.{Promise as Permitted};
 ghost use Rattle.handover_replay.specs.Promise.{Written as ReplayedAcross};
 
 // Judges an image: `checker::entry::check_image`.
+// The parameters of the functions here are those of the C interface, `include/hidokpalu.h`.
 #[unsafe(no_mangle)]
 pub extern "C" fn check_image(image: &[u8], out: &mut [u8]) -> u16
     ensures { Verdict image.now out.old result out.new }

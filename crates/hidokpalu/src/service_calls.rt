@@ -5,6 +5,7 @@ ghost use Rattle.service_spec.specs.Opening.{opening_code, service_for};
 ghost use Rattle.service_spec.specs.Promise.{CheckServed, TrimServed, BillServed, HandoverServed, ReplayServed, AcrossServed};
 
 // Opens a service.
+// The parameters of the functions here are those of the C interface, `include/hidokpalu.h`.
 #[unsafe(no_mangle)]
 pub extern "C" fn open_service<'a, 'b>(rights: &'a [u8], service: &'b mut [u32]) -> u16
     ensures { (result ≡ opening_code service.old)

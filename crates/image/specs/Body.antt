@@ -1,6 +1,6 @@
 -- The body of one record, by its place: header, formulas, threads, outline, lines, obligations, claims.
 use Rattle.std.specs.Prelude.{cond, List, ℕ, ◌+◌, ◌-◌, eqb, leb}
-use Rattle.image_frames.specs.declared.fault.Checked.{Checked}
+use Rattle.image_frames.specs.Fault.{Checked}
 use Rattle.image_header.specs.declared.sizes.Sizes.{Sizes}
 use Rattle.image_header.specs.Header.{header}
 use Rattle.image_bodies.specs.Claim as Claims

@@ -1,4 +1,4 @@
-pub mod AccessBranches
+pub mod Places
 pub mod PositionTrees
 pub mod RuleForm
 pub mod AccessAgree

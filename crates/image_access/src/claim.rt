@@ -1,12 +1,11 @@
 // The claims of an image, by their numbers from 0.
 ghost use Rattle.std.specs.Prelude.{◌≡◌, ◌<◌};
 ghost use Rattle.image_frames.specs.Records.{bodies};
-ghost use Rattle.image_index.specs.IndexTable.{index_of};
 ghost use Rattle.image_meaning.specs.Image.{claim_body, claim_place};
 ghost use Rattle.image_access.specs.AccessPlaces.{claimed_in};
 
 use image_header::sizes::Sizes;
-use image_index::look_up::body_of;
+use image_index::indexed::Indexed;
 use limits::read::{u8_at, u16_at};
 
 // Two threads with a point each, and the line that proves that they are never at these points together.
@@ -20,18 +19,24 @@ pub struct Claimed {
 }
 
 // The body of claim `i`.
-fn claim_body<'a, 'b>(image: &'a [u8], index: &'b [usize], sizes: Sizes, i: usize) -> &'a [u8]
-    requires { (index.now ≡ index_of image.now) × (i < 65536) }
+// `i < 65536` stays a clause: a type of 16 bits would narrow the parameter of `claim_of` and `claim_place`.
+#[tactic(auto, unfolding(image_meaning::specs::Image::claim_body))]
+fn claim_body<'a>(image: &Indexed<'a>, sizes: Sizes, i: usize) -> &'a [u8]
+    requires { i < 65536 }
     ensures { result.now ≡ claim_body sizes (bodies image.now) i }
 {
-    body_of(
-        image,
-        index,
-        (sizes.formulas as usize) + (sizes.threads as usize) + 1 + (sizes.lines as usize) + 2 + i,
+    image.body_of(
+        usize::from(sizes.formulas)
+            + usize::from(sizes.threads)
+            + 1
+            + usize::from(sizes.lines)
+            + 2
+            + i,
     )
 }
 
 // The claim in `body`.
+#[tactic(auto, unfolding(crate::specs::AccessPlaces::claimed_in))]
 fn read_claim(body: &[u8]) -> Claimed
     ensures { (result ≡ claimed_in body.now) × (result.line < 65536) }
 {
@@ -45,18 +50,18 @@ fn read_claim(body: &[u8]) -> Claimed
 }
 
 // Claim `i`, counted from 0.
-pub fn claim_of<'a, 'b>(image: &'a [u8], index: &'b [usize], sizes: Sizes, i: usize) -> Claimed
-    requires { (index.now ≡ index_of image.now) × (i < 65536) }
+pub fn claim_of(image: &Indexed, sizes: Sizes, i: usize) -> Claimed
+    requires { i < 65536 }
     ensures { (result ≡ claimed_in (claim_body sizes (bodies image.now) i)) × (result.line < 65536) }
 {
-    let b = claim_body(image, index, sizes, i);
-    read_claim(b)
+    read_claim(claim_body(image, sizes, i))
 }
 
 // The record number of claim `i`, counted from 1.
+#[tactic(auto, unfolding(image_meaning::specs::Image::claim_place))]
 pub fn claim_place(sizes: Sizes, i: usize) -> usize
     requires { i < 65536 }
     ensures { result ≡ claim_place sizes i }
 {
-    (sizes.formulas as usize) + (sizes.threads as usize) + (sizes.lines as usize) + 4 + i
+    usize::from(sizes.formulas) + usize::from(sizes.threads) + usize::from(sizes.lines) + 4 + i
 }

@@ -1,5 +1,5 @@
-// Look-ups in a well-formed image, for the code that judges its lines. Each is total: its equation needs nothing but the index and the
-// totals to be those of the image.
+// Look-ups in a well-formed image, for the code that judges its lines. Each is total: the types hold that the index and the totals are those
+// of the image.
 #![tactic(auto)]
 
 pub mod acting_instruction;

@@ -1,30 +1,24 @@
 // The line that an obligation names.
-ghost use Rattle.std.specs.Prelude.{◌≡◌, ◌<◌};
+ghost use Rattle.std.specs.Prelude.{◌≡◌, ◌<◌, ◌+◌};
 ghost use Rattle.image_frames.specs.Records.{bodies};
-ghost use Rattle.image_index.specs.IndexTable.{index_of};
-ghost use Rattle.image_access.specs.Totals.{totals_of};
 ghost use Rattle.image_meaning.specs.Image.{named_line};
 
-use crate::totals::Totals;
+use crate::totals::Counted;
 use image_header::sizes::Sizes;
-use image_index::look_up::body_of;
 use limits::read::number_at;
 
-// The line that obligation `i`, counted from 0, names; 0 for no line.
-pub fn named_line<'a, 'b>(
-    image: &'a [u8],
-    index: &'b [usize],
-    sizes: Sizes,
-    totals: Totals,
-    i: usize,
-) -> usize
-    requires { (index.now ≡ index_of image.now) × (totals ≡ totals_of sizes (bodies image.now)) }
-    ensures { (result ≡ named_line sizes (bodies image.now) i) × (result < 65536) }
+// The number of records before that of the obligations.
+fn before_obligations(sizes: Sizes) -> usize
+    ensures { result ≡ sizes.formulas + sizes.threads + 1 + sizes.lines + 1 }
 {
-    let body = body_of(
-        image,
-        index,
-        (sizes.formulas as usize) + (sizes.threads as usize) + 1 + (sizes.lines as usize) + 1,
-    );
-    number_at(body, totals.obligations, i)
+    usize::from(sizes.formulas) + usize::from(sizes.threads) + 1 + usize::from(sizes.lines) + 1
+}
+
+// The line that obligation `i`, counted from 0, names; 0 for no line.
+#[tactic(auto, unfolding(image_meaning::specs::Image::named_line, crate::specs::Totals::totals_of))]
+pub fn named_line(records: &Counted, i: usize) -> usize
+    ensures { (result ≡ named_line records.now.sizes (bodies records.now.image.now) i) × (result < 65536) }
+{
+    let body = records.image.body_of(before_obligations(records.sizes));
+    number_at(body, records.totals.obligations, i)
 }

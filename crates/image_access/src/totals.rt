@@ -1,15 +1,13 @@
 // Totals over the threads of an image, computed once for all look-ups.
-ghost use Rattle.std.specs.Prelude.{◌≡◌, ◌-◌, ◌≤◌, replicate};
-ghost use Rattle.limits.specs.Limits.{threads};
+ghost use Rattle.std.specs.Prelude.{◌≡◌, ◌-◌, ◌≤◌};
 ghost use Rattle.image_frames.specs.Records.{bodies};
-ghost use Rattle.image_index.specs.IndexTable.{index_of};
 ghost use Rattle.image_bodies.specs.PointCounts.{point_counts_to};
 ghost use Rattle.image_access.specs.Totals.{points_before, totals_of};
 
 use image_bodies::point_counts::{obligations_by, point_counts_of};
 use image_header::sizes::Sizes;
 use image_header::thread::last_point;
-use image_index::look_up::body_of;
+use image_index::indexed::Indexed;
 use limits::Limits;
 
 // The points of all threads, those before each thread, and the obligations.
@@ -22,72 +20,77 @@ pub struct Totals {
 }
 
 // The points of the threads before thread `t`: the point counts of an image with only those threads.
-fn points_before<'a, 'b>(image: &'a [u8], index: &'b [usize], sizes: Sizes, t: usize) -> usize
-    requires { (index.now ≡ index_of image.now) × ((1 ≤ t) × (t ≤ 256)) }
+// `1 ≤ t` stays a clause, and image and sizes stay apart: `Counted` is made from what this function counts.
+#[tactic(auto, using(crate::proofs::Places::totals_branches))]
+fn points_before(image: &Indexed, sizes: Sizes, t: usize) -> usize
+    requires { (1 ≤ t) × (t ≤ sizes.threads) }
     ensures { result ≡ (point_counts_to sizes (bodies image.now) (t - 1)).points }
 {
     let before = Sizes {
         threads: (t - 1) as u8,
-        words: sizes.words,
-        registers: sizes.registers,
-        range: sizes.range,
-        formulas: sizes.formulas,
-        lines: sizes.lines,
-        claims: sizes.claims,
+        ..sizes
     };
-    let counts = point_counts_of(image, index, before);
-    counts.points
+    point_counts_of(image, before).points
 }
 
-// Writes, for each thread that an image may have, the points of the threads before it.
-fn fill_before<'a, 'b, 'c>(
-    image: &'a [u8],
-    index: &'b [usize],
-    sizes: Sizes,
-    before: &'c mut [usize],
-)
-    requires { (index.now ≡ index_of image.now) × (before.old ≡ replicate threads 0) }
-    ensures { before.new ≡ points_before sizes (bodies image.now) }
+// For each thread that an image may have, the points of the threads before it.
+#[tactic(auto, using(crate::proofs::Places::totals_branches), unfolding(crate::specs::Totals::points_before))]
+fn before_each(image: &Indexed, sizes: Sizes) -> [usize; Limits::THREADS]
+    ensures { result ≡ points_before sizes (bodies image.now) }
 {
-    let mut sum: usize = 0;
-    let mut t: usize = 0;
-    while t < Limits::THREADS {
+    let mut before = [0; Limits::THREADS];
+    let mut sum = 0;
+    for t in 0..Limits::THREADS {
         before[t] = sum;
-        t += 1;
-        let body = body_of(image, index, (sizes.formulas as usize) + t);
-        sum += last_point(body) + 1;
+        sum += last_point(image.body_of(usize::from(sizes.formulas) + t + 1)) + 1;
     }
+    before
 }
 
 // The totals of an image.
-pub fn totals_of<'a, 'b>(image: &'a [u8], index: &'b [usize], sizes: Sizes) -> Totals
-    requires { index.now ≡ index_of image.now }
+#[tactic(auto, using(crate::proofs::Places::totals_branches))]
+fn totals_of(image: &Indexed, sizes: Sizes) -> Totals
     ensures { result ≡ totals_of sizes (bodies image.now) }
 {
-    let counts = point_counts_of(image, index, sizes);
-    let mut before = [0usize; Limits::THREADS];
-    fill_before(image, index, sizes, &mut before);
+    let counts = point_counts_of(image, sizes);
     Totals {
         points: counts.points,
-        before,
+        before: before_each(image, sizes),
         obligations: obligations_by(sizes.threads, counts),
     }
 }
 
-// The points of the threads before thread `t`, from the totals. No image has more threads than the totals hold; the last line serves
-// sizes that no image has.
-pub fn before_thread<'a, 'b>(
-    image: &'a [u8],
-    index: &'b [usize],
-    sizes: Sizes,
-    totals: Totals,
-    t: usize,
-) -> usize
-    requires { ((index.now ≡ index_of image.now) × (totals ≡ totals_of sizes (bodies image.now))) × ((1 ≤ t) × (t ≤ sizes.threads)) }
-    ensures { result ≡ (point_counts_to sizes (bodies image.now) (t - 1)).points }
-{
-    if t <= Limits::THREADS {
-        return totals.before[t - 1];
+// An image with its totals.
+#[derive(Drop)]
+pub struct Counted<'a> {
+    pub image: &'a Indexed<'a>,
+    pub sizes: Sizes,
+    pub totals: Totals,
+    pub ghost counted: { totals ≡ totals_of sizes (bodies image.now) },
+}
+
+impl<'a> Counted<'a> {
+    pub fn new(image: &'a Indexed<'a>, sizes: Sizes) -> Counted<'a>
+        ensures bytes { result.image.now ≡ image.now }
+        ensures counts { result.sizes ≡ sizes }
+    {
+        Counted {
+            image,
+            sizes,
+            totals: totals_of(image, sizes),
+        }
     }
-    points_before(image, index, sizes, t)
+
+    // The points of the threads before thread `t`. No image has more threads than the totals hold; the last line serves sizes that no
+    // image has.
+    #[tactic(auto, using(crate::proofs::Places::totals_branches))]
+    pub fn before_thread(&self, t: usize) -> usize
+        requires { (1 ≤ t) × (t ≤ self.now.sizes.threads) }
+        ensures { result ≡ (point_counts_to self.now.sizes (bodies self.now.image.now) (t - 1)).points }
+    {
+        if t <= Limits::THREADS {
+            return self.totals.before[t - 1];
+        }
+        points_before(self.image, self.sizes, t)
+    }
 }

@@ -1,3 +1,2 @@
-pub mod RecordBranches
-pub mod ThreadBodyBranches
-pub mod BodyBranches
+pub mod Counts
+pub mod Outlined

@@ -1,10 +1,8 @@
 -- A claim: "thread, point, other thread, other point (bytes; equal threads are code 6), line (16 bits)".
 use Rattle.std.specs.Prelude.{Bool, not, ◌&&◌, List, ℕ, ◌+◌, eqb, length, get_or, drop}
 use Rattle.limits.specs.Numbers.{le16, within}
-use Rattle.image_frames.specs.Fault.{unless}
+use Rattle.image_frames.specs.Fault.{unless, Checked, passed}
 use Rattle.image_frames.specs.declared.fault.Fault.TheVariants.{Body, Number}
-use Rattle.image_frames.specs.declared.fault.Checked.{Checked}
-use Rattle.image_frames.specs.declared.fault.Checked.TheVariants.{Passed}
 use Rattle.image_header.specs.declared.sizes.Sizes.{Sizes}
 use Rattle.image_header.specs.Thread.{last_point}
 use Rattle.image_bodies.specs.RecordPlaces.{thread_body}
@@ -23,4 +21,4 @@ claimed z l b = point_there z l b 0 && (point_there z l b 2 && (different b && w
 
 -- code 5, then code 6
 unfoldable pub claim : Sizes → List (List ℕ) → List ℕ → Checked
-claim z l b = unless (eqb (length b) 6) Body (unless (claimed z l b) Number Passed)
+claim z l b = unless (eqb (length b) 6) Body (unless (claimed z l b) Number passed)

@@ -4,10 +4,8 @@ use Rattle.std.specs.Prelude.{Bool, false, not, ◌&&◌, cond, List, ℕ, ◌+�
 use Rattle.logic.specs.Opcode as Opcode
 use Rattle.limits.specs.Limits as Limits
 use Rattle.limits.specs.Numbers.{le16, has, numbers, within, every}
-use Rattle.image_frames.specs.Fault.{unless}
+use Rattle.image_frames.specs.Fault.{unless, Checked, passed}
 use Rattle.image_frames.specs.declared.fault.Fault.TheVariants.{Body, Number}
-use Rattle.image_frames.specs.declared.fault.Checked.{Checked}
-use Rattle.image_frames.specs.declared.fault.Checked.TheVariants.{Passed}
 use Rattle.image_header.specs.declared.sizes.Sizes.{Sizes}
 use Rattle.image_bodies.specs.RecordPlaces.{instruction_of}
 use Rattle.image_bodies.specs.RuleForms as Rules
@@ -64,4 +62,4 @@ line_numbers z l lower b =
     (unless (eqb (length b) (line_size b)) Body
     (unless (placed z l (form_of (get_or b 0 0)) b) Number
     (unless (numbered z lower b) Number
-    Passed)))
+    passed)))

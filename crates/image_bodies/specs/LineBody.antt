@@ -1,10 +1,8 @@
 -- A line's record: codes 5, 6 and 8.
 use Rattle.std.specs.Prelude.{Bool, true, ◌&&◌, List, [], ℕ, eqb, get_or, drop}
 use Rattle.limits.specs.Numbers.{le16}
-use Rattle.image_frames.specs.Fault.{unless, also}
+use Rattle.image_frames.specs.Fault.{unless, also, Checked, passed}
 use Rattle.image_frames.specs.declared.fault.Fault.TheVariants.{Sort}
-use Rattle.image_frames.specs.declared.fault.Checked.{Checked}
-use Rattle.image_frames.specs.declared.fault.Checked.TheVariants.{Passed}
 use Rattle.formula.specs.Codes as Codes
 use Rattle.formula.specs.Reader.{sort_of}
 use Rattle.image_header.specs.declared.sizes.Sizes.{Sizes}
@@ -31,4 +29,4 @@ line_sorted l b = sorted_by l (form_of (get_or b 0 0)) (le16 (drop 3 b)) && sort
 
 -- codes 5 and 6, then 8, for a line with this number of lines before it
 unfoldable pub line : Sizes → List (List ℕ) → ℕ → List ℕ → Checked
-line z l lower b = also (line_numbers z l lower b) (unless (line_sorted l b) Sort Passed)
+line z l lower b = also (line_numbers z l lower b) (unless (line_sorted l b) Sort passed)

@@ -2,10 +2,8 @@
 use Rattle.std.specs.Prelude.{Bool, true, not, ◌&&◌, cond, List, [], ℕ, eqb, ltb, leb, get_or}
 use Rattle.logic.specs.Opcode as Opcode
 use Rattle.limits.specs.Numbers.{nth, every}
-use Rattle.image_frames.specs.Fault.{unless, also}
+use Rattle.image_frames.specs.Fault.{unless, also, Checked, passed}
 use Rattle.image_frames.specs.declared.fault.Fault.TheVariants.{Sort, Owner, Operand}
-use Rattle.image_frames.specs.declared.fault.Checked.{Checked}
-use Rattle.image_frames.specs.declared.fault.Checked.TheVariants.{Passed}
 use Rattle.formula.specs.Codes as Codes
 use Rattle.formula_compare.specs.Occurs.{occurs, register, foreign}
 use Rattle.image_header.specs.declared.sizes.Sizes.{Sizes}
@@ -58,7 +56,7 @@ result_absent l i =
 
 -- code 9, then code 23
 unfoldable pub thread_registers : List (List ℕ) → ℕ → List ℕ → Checked
-thread_registers l t b = unless (every (owned l t) (instructions b)) Owner (unless (every (result_absent l) (instructions b)) Operand Passed)
+thread_registers l t b = unless (every (owned l t) (instructions b)) Owner (unless (every (result_absent l) (instructions b)) Operand passed)
 
 -- the record of thread t: codes 5 and 6, then 8, then 9 and 23
 unfoldable pub thread : Sizes → List (List ℕ) → ℕ → List ℕ → Checked

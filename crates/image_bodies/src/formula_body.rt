@@ -2,23 +2,25 @@
 ghost use Rattle.std.specs.Prelude.{◌≡◌};
 ghost use Rattle.image_bodies.specs.FormulaBody.{counts_of, fault_of, formula};
 
-use formula::reader::{Counts, Reading, read_formula};
-use image_frames::fault::{Checked, Fault};
+use formula::reader::{Counts, read_formula};
+use image_frames::fault::Fault;
 use image_header::sizes::Sizes;
 use limits::Limits;
 use limits::range::in_range;
 
-// The fault for a code of the reader: 6 for an operand outside its range, else 7.
-fn fault_of(code: usize) -> Fault
-    ensures { result ≡ fault_of code }
+// The reader's fault as one of the image: an operand outside its range, or a malformed formula.
+#[tactic(auto, unfolding(crate::specs::FormulaBody::fault_of))]
+fn fault_of(fault: formula::reader::Fault) -> Fault
+    ensures { result ≡ fault_of fault }
 {
-    if code == formula::reader::Fault::RANGE {
-        return Fault::Number;
+    match fault {
+        formula::reader::Fault::Range => Fault::Number,
+        formula::reader::Fault::Malformed => Fault::Formula,
     }
-    Fault::Formula
 }
 
 // The counts that the reader needs, from the sizes of the image.
+#[tactic(auto, unfolding(crate::specs::FormulaBody::counts_of))]
 fn counts_of(sizes: Sizes) -> Counts
     ensures { result ≡ counts_of sizes }
 {
@@ -31,15 +33,15 @@ fn counts_of(sizes: Sizes) -> Counts
 }
 
 // Checks the length of a formula's record, then its bytes up to the first fault from the left.
-pub fn check_formula(body: &[u8], sizes: Sizes) -> Checked
+#[tactic(auto, unfolding(crate::specs::FormulaBody::formula, crate::specs::FormulaBody::read, image_frames::specs::Fault::unless))]
+pub fn check_formula(body: &[u8], sizes: Sizes) -> Result<(), Fault>
     ensures { result ≡ formula sizes body.now }
 {
-    if in_range(body.len(), 1, Limits::FORMULA_BYTES) {
-        match read_formula(body, counts_of(sizes)) {
-            Reading::Formula(_) => Checked::Passed,
-            Reading::Fault(code) => Checked::Faulty(fault_of(code)),
-        }
-    } else {
-        Checked::Faulty(Fault::Body)
+    if !in_range(body.len(), 1, Limits::FORMULA_BYTES) {
+        return Err(Fault::Body);
+    }
+    match read_formula(body, counts_of(sizes)) {
+        Ok(_) => Ok(()),
+        Err(fault) => Err(fault_of(fault)),
     }
 }

@@ -16,41 +16,33 @@ pub fn is_sort(body: &[u8], sort: u8) -> bool
 }
 
 // Whether start (27) does not occur in the formula.
+#[tactic(auto, unfolding(crate::specs::FormulaUse::startless))]
 fn is_startless(body: &[u8]) -> bool
     ensures { result ≡ startless body.now }
 {
-    if has_start(body, 0, Limits::NESTING) {
-        return false;
-    }
-    true
+    !has_start(body, 0, Limits::NESTING)
 }
 
 // Whether no word occurs in the formula, as a value or in a flag (2, 14, 15).
+#[tactic(auto, unfolding(crate::specs::FormulaUse::plain))]
 fn is_plain(body: &[u8]) -> bool
     ensures { result ≡ plain body.now }
 {
-    if has_shared(body, 0, Limits::NESTING) {
-        return false;
-    }
-    true
+    !has_shared(body, 0, Limits::NESTING)
 }
 
 // Whether the formula may be used in an outline or a triple: an assertion without start.
+#[tactic(auto, unfolding(crate::specs::FormulaUse::outlined))]
 pub fn is_outlined(body: &[u8]) -> bool
     ensures { result ≡ outlined body.now }
 {
-    if is_sort(body, Place::ASSERTION) {
-        return is_startless(body);
-    }
-    false
+    is_sort(body, Place::ASSERTION) && is_startless(body)
 }
 
 // Whether the formula may be used in an instruction: one of this sort, over registers alone.
+#[tactic(auto, unfolding(crate::specs::FormulaUse::plain_of))]
 pub fn is_plain_of(body: &[u8], sort: u8) -> bool
     ensures { result ≡ plain_of sort body.now }
 {
-    if is_sort(body, sort) {
-        return is_plain(body);
-    }
-    false
+    is_sort(body, sort) && is_plain(body)
 }

@@ -14,11 +14,11 @@ use Rattle.image_frames.specs.Kinds.{order, most}
 use Rattle.image_frames.specs.Frames.{admit, frame}
 use Rattle.image_frames.specs.declared.fault.Fault.{Fault}
 use Rattle.image_frames.specs.declared.fault.Fault.TheVariants.{Length, Kind}
-use Rattle.image_frames.specs.declared.fault.Checked.{Checked}
-use Rattle.image_frames.specs.declared.fault.Checked.TheVariants.{Passed, Faulty}
+use Rattle.image_frames.specs.Fault.{Checked, passed}
+use Rattle.std.specs.Prelude.{Err}
 use Rattle.image_frames.specs.declared.frame.Seen.{Seen}
 
-never : {Z : Type 0} (f : Fault) → ◌≡◌ {A = Checked} (Faulty f) Passed → Z
+never : {Z : Type 0} (f : Fault) → ◌≡◌ {A = Checked} (Err f) passed → Z
 never f h = let q : ◌≡◌ {A = ℕ} 0 1 = cc in absurd (omega arith)
 
 -- its place is one of the order, that of the last record or the next, and there are fewer there than there may be
@@ -28,12 +28,12 @@ pub record Admitted (c : Seen) (k : ℕ) : Type 0 where
   pub next : k ≤ c.last + 1
   pub few : get_or c.count k 0 < most k
 
-pub admitted : (c : Seen) (k : ℕ) → admit c k ≡ Passed → Admitted c k
+pub admitted : (c : Seen) (k : ℕ) → admit c k ≡ passed → Admitted c k
 unfolding admit
 admitted c k = go (ltb Kinds.last k) (ltb k c.last) (ltb 1 (k - c.last)) (ltb (get_or c.count k 0) (most k)) refl refl refl refl
   where
     go : (p q r t : Bool) → ltb Kinds.last k ≡ p → ltb k c.last ≡ q → ltb 1 (k - c.last) ≡ r → ltb (get_or c.count k 0) (most k) ≡ t
-        → cond p (Faulty Kind) (cond q (Faulty Kind) (cond r (Faulty Kind) (cond t Passed (Faulty Kind)))) ≡ Passed → Admitted c k
+        → cond p (Err Kind) (cond q (Err Kind) (cond r (Err Kind) (cond t passed (Err Kind)))) ≡ passed → Admitted c k
     go true q r t d l n e h = never Kind h
     go false true r t d l n e h = never Kind h
     go false false true t d l n e h = never Kind h
@@ -49,12 +49,12 @@ pub record Framed (c : Seen) (l : List ℕ) : Type 0 where
   pub inside : 2 + le16 l ≤ length l
   pub admits : Admitted c (order (le16 (drop 2 l)))
 
-pub framed : (c : Seen) (l : List ℕ) → frame c l ≡ Passed → Framed c l
+pub framed : (c : Seen) (l : List ℕ) → frame c l ≡ passed → Framed c l
 unfolding frame
 framed c l = go (has 2 l) (ltb (le16 l) 2) (has (2 + le16 l) l) refl refl
   where
     go : (i j m : Bool) → ltb (le16 l) 2 ≡ j → has (2 + le16 l) l ≡ m
-        → cond i (cond j (Faulty Length) (cond m (admit c (order (le16 (drop 2 l)))) (Faulty Length))) (Faulty Length) ≡ Passed
+        → cond i (cond j (Err Length) (cond m (admit c (order (le16 (drop 2 l)))) (Err Length))) (Err Length) ≡ passed
         → Framed c l
     go true true m e d h = never Length h
     go true false true e d h =

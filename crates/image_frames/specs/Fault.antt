@@ -1,9 +1,7 @@
 -- Faults: their codes in the verdict, and checks in sequence.
-use Rattle.std.specs.Prelude.{Bool, true, false, ℕ}
+use Rattle.std.specs.Prelude.{Bool, true, false, ℕ, Result, Ok, Err}
 use Rattle.image_frames.specs.declared.fault.Fault.{Fault}
 use Rattle.image_frames.specs.declared.fault.Fault.TheVariants.{Size, Length, Kind, Body, Number, Formula, Sort, Owner, Operand}
-use Rattle.image_frames.specs.declared.fault.Checked.{Checked}
-use Rattle.image_frames.specs.declared.fault.Checked.TheVariants.{Passed, Faulty}
 
 -- the verdict's code of each fault, as the page's table has it; 23 is "operand names the result register"
 unfoldable pub code_of : Fault → ℕ
@@ -17,12 +15,19 @@ code_of Sort = 8
 code_of Owner = 9
 code_of Operand = 23
 
+-- what a check of a part of the image finds: nothing, or its first fault
+abbrev pub Checked : Type 0
+Checked = Result (Unit {0}) Fault
+
+abbrev pub passed : Checked
+passed = Ok tt
+
 -- c if the test is passed, else the fault f
 unfoldable pub unless : Bool → Fault → Checked → Checked
 unless true f c = c
-unless false f c = Faulty f
+unless false f c = Err f
 
 -- the first fault of two checks
 unfoldable pub also : Checked → Checked → Checked
-also Passed c = c
-also (Faulty f) c = Faulty f
+also (Ok _) c = c
+also (Err f) c = Err f

@@ -21,9 +21,9 @@ pub enum Fault {
     Operand,
 }
 
-// The result of checking a part of the image: passed, or its first fault.
+// The first fault of an image, and the record that has it: 0 for the image as a whole.
 #[derive(Clone, Copy)]
-pub enum Checked {
-    Passed,
-    Faulty(Fault),
+pub struct Refusal {
+    pub fault: Fault,
+    pub record: usize,
 }

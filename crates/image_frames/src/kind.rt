@@ -5,6 +5,7 @@ ghost use Rattle.image_frames.specs.Kinds.{order};
 use limits::Limits;
 
 // The number of each kind, its place in the order in which an image has its records, and how many records there may be.
+// Kinds are numbers and no enum: the walk subtracts their places and counts the records by them.
 #[derive(Drop)]
 pub struct Kind;
 
@@ -42,14 +43,15 @@ impl Kind {
 
 // The place of a kind in the order: its number up to 6, LAST for a claim, LAST + 1 for any other. No record of kind 0 is admitted: MOST
 // is 0.
+#[tactic(auto, using(limits::proofs::BranchTests::tests), unfolding(crate::specs::Kinds::order))]
 pub fn order_of(kind: usize) -> usize
     ensures { (result ≡ order kind) × (result ≤ 8) }
 {
     if kind == Kind::CLAIM {
-        return Kind::LAST;
+        Kind::LAST
+    } else if Kind::OBLIGATIONS < kind {
+        Kind::LAST + 1
+    } else {
+        kind
     }
-    if Kind::OBLIGATIONS < kind {
-        return Kind::LAST + 1;
-    }
-    kind
 }

@@ -10,6 +10,9 @@ use Rattle.limits.specs.Limits as Limits
 use Rattle.limits.specs.Numbers.{within, every, nth}
 use Rattle.limits.proofs.PassedTests.{and_true, within_true}
 use Rattle.image_header.specs.Header.{thread_count, word_count, register_count, value_range, counted, header_size, start_values, owners, marks, cleared}
+use Rattle.limits.proofs.BranchTests.{tests}
+use Rattle.limits.proofs.Numbers.{given}
+use Rattle.image_frames.proofs.Branches.Checks.{joining}
 
 pub size_is : (b : List ℕ) (w g : ℕ) → w ≡ get_or b 1 0 → g ≡ get_or b 2 0 → 4 + w + g + g ≡ header_size b
 unfolding header_size
@@ -72,3 +75,7 @@ pub values_within : (b l : List ℕ) (r : ℕ) (u : Bool) → r ≡ get_or b 3 0
 values_within b l r u e d h = rw (← e, ← d) h
 
 pub ruleset header_branches = (size_is, values_are, owners_are, marks_are, cleared_there, cleared_absent, owned_of, range_some, values_within)
+
+pub ruleset header_search = (header_branches, given, tests)
+
+pub ruleset headed_search = (header_search, joining)

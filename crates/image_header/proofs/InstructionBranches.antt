@@ -1,13 +1,15 @@
 -- An instruction: the ways through the functions, one law for each.
-use Prim.Native.Nat.{ℕ}
-use mathlib.Core.Path.{◌≡◌}
+use Prim.Native.Nat.{ℕ, zero, suc}
+use mathlib.Core.Path.{◌≡◌, refl}
 use mathlib.Core.List.{List}
 use mathlib.Core.Bool.{Bool, true, false, not}
 use lib.Dec.{eqb}
-use borrow.Author.Tests.{eq-eqb, ne_eqb}
+use native.Mathlib.Omega.{arith}
+use borrow.Author.Tests.{eq-eqb, ne_eqb, le-leb, lt-leb}
 use Rattle.logic.specs.Opcode as Opcode
 use lib.ListN.{get_or, drop}
-use Rattle.limits.specs.Numbers.{le16}
+use Rattle.limits.specs.Numbers.{le16, within}
+use Rattle.image_frames.proofs.Branches.Checks.{joined}
 use Rattle.image_header.specs.declared.sizes.Sizes.{Sizes}
 use Rattle.image_header.specs.declared.instruction.Half.{Half}
 use Rattle.image_header.specs.declared.instruction.Instruction.{Instruction}
@@ -41,6 +43,15 @@ module _ (op : ℕ) (t : Bool) (e : t ≡ twofold op) where
   second_none b d = rw (← e, d)
 
 pub ruleset instruction_branches = (half_is, read_is, size_two, size_one, second_there, second_none)
+
+-- a number that has to be 0
+pub within_zero : (n : ℕ) → within 0 0 n ≡ eqb n 0
+unfolding within
+within_zero zero = refl
+within_zero (suc n) = let q : suc n ≡ 0 → ⊥ = omega arith in
+    rw (le-leb 0 (suc n) (omega arith), lt-leb (suc n) 0 (omega arith), ne_eqb (suc n) 0 q)
+
+pub ruleset half_fits_search = (within_zero, joined)
 
 module _ (i : Instruction) (z : Sizes) (t : Bool) (e : t ≡ twofold i.operation) where
   pub second_alone : t ≡ false → true ≡ second_fits z i

@@ -1,16 +1,16 @@
 -- Threads: the ways through the functions, one law for each.
 use Prim.Native.Nat.{ℕ, zero, suc, ◌+◌, ◌-◌, ◌*◌, ◌≤◌, ◌<◌}
 use mathlib.Core.Path.{◌≡◌, refl, ap, sym, ◌∙◌}
-use mathlib.Core.List.{List}
+use mathlib.Core.List.{List, [], ◌∷◌}
 use mathlib.Core.Bool.{Bool, true, false, cond}
+use native.Mathlib.Numerals.{sub-one}
 use native.Mathlib.Omega.{arith}
 use lib.ListN.{length, get_or, drop, get_or-eq_default}
 use lib.Seq.{drop-drop, get_or-drop}
-use Rattle.limits.specs.Numbers.{every}
-use Rattle.image_header.specs.declared.sizes.Sizes.{Sizes}
 use Rattle.image_header.specs.declared.instruction.Instruction.{Instruction}
-use Rattle.image_header.specs.Instruction.{twofold, instruction_size, instruction, ranged}
+use Rattle.image_header.specs.Instruction.{twofold, instruction_size, instruction}
 use Rattle.image_header.specs.Thread.{last_point, cut, begins, instructions, nothing, thread_size}
+use Rattle.limits.proofs.BranchTests.{tests}
 
 -- the instructions of a thread
 
@@ -26,6 +26,21 @@ cut_length : (n : ℕ) (l : List ℕ) → length (cut n l) ≡ n
 unfolding cut
 cut_length zero l = refl
 cut_length (suc n) l = ap suc (cut_length n (drop (instruction_size (get_or l 0 0)) l))
+
+-- the iterator's step
+
+pub left_none : (n : ℕ) (l : List ℕ) → n ≡ 0 → cut n l ≡ []
+unfolding cut
+left_none n l e = rw e
+
+pub left_some : (n : ℕ) (l m : List ℕ) (i : Instruction) (k : ℕ) → (n ≡ 0 → ⊥) → i ≡ instruction l → k ≡ instruction_size i.operation
+    → m ≡ drop k l
+    → cut n l ≡ i ∷ cut (n - 1) m
+unfolding cut instruction
+left_some zero l m i k h e d f = absurd (h refl)
+left_some (suc n) l m i k h e d f = rw (sub-one (suc n), f, d, e)
+
+pub ruleset next_branches = (left_none, left_some)
 
 pub begins_zero : (l : List ℕ) → begins l 0 ≡ 0
 unfolding begins
@@ -123,11 +138,4 @@ from_start b = walk_start (drop 1 b)
 
 pub ruleset thread_going = (begins_few, from_behind, from_in, from_walked, from_start)
 
--- the loop over a thread's instructions
-
-pub instructions_count : (b : List ℕ) (last : ℕ) → last ≡ last_point b → length (instructions b) ≡ last
-instructions_count b last e = instructions_length b ∙ sym e
-
-pub fit_start : (b : List ℕ) (last : ℕ) (z : Sizes) → last ≡ last_point b
-    → every (ranged (last_point b) z) (instructions b) ≡ every (ranged last z) (drop 0 (instructions b))
-fit_start b last z e = rw e
+pub ruleset thread_search = (thread_going, thread_threading, tests)

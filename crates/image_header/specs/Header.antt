@@ -2,10 +2,8 @@
 use Rattle.std.specs.Prelude.{Bool, true, cond, ◌&&◌, List, ℕ, ◌+◌, ◌-◌, eqb, length, get_or, take, drop}
 use Rattle.limits.specs.Limits as Limits
 use Rattle.limits.specs.Numbers.{has, nth, within, every}
-use Rattle.image_frames.specs.Fault.{unless}
+use Rattle.image_frames.specs.Fault.{Checked, passed, unless}
 use Rattle.image_frames.specs.declared.fault.Fault.TheVariants.{Body, Number}
-use Rattle.image_frames.specs.declared.fault.Checked.{Checked}
-use Rattle.image_frames.specs.declared.fault.Checked.TheVariants.{Passed}
 
 -- the number of threads
 abbrev pub thread_count : List ℕ → ℕ
@@ -60,4 +58,4 @@ header_size b = 4 + word_count b + register_count b + register_count b
 
 -- code 5, then code 6
 unfoldable pub header : ℕ → List ℕ → Checked
-header t b = unless (has 4 b) Body (unless (eqb (length b) (header_size b)) Body (unless (headed t b) Number Passed))
+header t b = unless (has 4 b) Body (unless (eqb (length b) (header_size b)) Body (unless (headed t b) Number passed))

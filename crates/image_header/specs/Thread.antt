@@ -3,10 +3,8 @@ use Rattle.std.specs.Prelude.{Bool, ◌&&◌, List, [], ◌∷◌, ℕ, zero, su
 use Rattle.logic.specs.Opcode as Opcode
 use Rattle.limits.specs.Limits as Limits
 use Rattle.limits.specs.Numbers.{has, within, every}
-use Rattle.image_frames.specs.Fault.{unless}
+use Rattle.image_frames.specs.Fault.{Checked, passed, unless}
 use Rattle.image_frames.specs.declared.fault.Fault.TheVariants.{Body, Number}
-use Rattle.image_frames.specs.declared.fault.Checked.{Checked}
-use Rattle.image_frames.specs.declared.fault.Checked.TheVariants.{Passed}
 use Rattle.image_header.specs.declared.sizes.Sizes.{Sizes}
 use Rattle.image_header.specs.declared.instruction.Instruction.{Instruction}
 use Rattle.image_header.specs.Instruction.{instruction_size, no_half, instruction, ranged}
@@ -43,4 +41,4 @@ numbered z b = within 1 Limits.points (get_or b 0 0) && every (ranged (last_poin
 
 -- code 5, then code 6
 unfoldable pub thread_numbers : Sizes → List ℕ → Checked
-thread_numbers z b = unless (has 1 b) Body (unless (eqb (length b) (thread_size b)) Body (unless (numbered z b) Number Passed))
+thread_numbers z b = unless (has 1 b) Body (unless (eqb (length b) (thread_size b)) Body (unless (numbered z b) Number passed))

@@ -1,6 +1,8 @@
 // One instruction: operation, a, b, formula; operations 9 to 12 are followed by a second half of the same form. Unused fields are 0.
+#![tactic(auto, using(crate::proofs::InstructionBranches::instruction_branches, limits::proofs::BranchTests::tests))]
+
 ghost use Rattle.std.specs.Prelude.{◌≡◌, ◌≤◌};
-ghost use Rattle.image_header.specs.Instruction.{twofold, pair_operation, first_operation, instruction_size, half, second_half, instruction, fields_of, fields_fit, half_fits, second_fits, ranged};
+ghost use Rattle.image_header.specs.Instruction.{twofold, pair_operation, first_operation, instruction_size, half, second_half, instruction, fields_of, fields_fit, inside, half_fits, second_fits, ranged};
 
 use crate::sizes::Sizes;
 use limits::range::in_range;
@@ -15,7 +17,8 @@ pub struct Half {
     pub formula: usize,
 }
 
-// The second half of an instruction that has none.
+// The second half of an instruction that has none: its formula is 0, which names no formula. No Option: the definitions `sorted`
+// (image_bodies), `acting_of` (image_access) and `worked_out` (replay_machine) read a second half in every instruction, without a case.
 pub const NO_HALF: Half = Half {
     operation: 0,
     a: 0,
@@ -33,6 +36,7 @@ pub struct Instruction {
     pub second: Half,
 }
 
+// Operations are numbers and no enum: an instruction is read before it is checked, so its first byte may be no operation.
 impl Instruction {
     // Register a := formula.
     pub const ASSIGN: u8 = 0;
@@ -100,39 +104,32 @@ pub struct Fields {
 }
 
 // Whether the operation has a second half: operations 9 to 12.
+#[tactic(auto, using(limits::proofs::BranchTests::tests), unfolding(crate::specs::Instruction::twofold))]
 pub fn is_twofold(operation: u8) -> bool
     ensures { result ≡ twofold operation }
 {
-    if operation < Instruction::PAIR_STORE {
-        return false;
-    }
-    operation <= Instruction::ASSIGN_TWO
+    Instruction::PAIR_STORE <= operation && operation <= Instruction::ASSIGN_TWO
 }
 
 // Whether the operation is a store, a releasing store or a swap paired with an assignment: operations 9 to 11.
+#[tactic(auto, using(limits::proofs::BranchTests::tests), unfolding(crate::specs::Instruction::pair_operation))]
 pub fn is_pair(operation: u8) -> bool
     ensures { result ≡ pair_operation operation }
 {
-    if operation < Instruction::PAIR_STORE {
-        return false;
-    }
-    operation <= Instruction::PAIR_SWAP
+    Instruction::PAIR_STORE <= operation && operation <= Instruction::PAIR_SWAP
 }
 
 // The operation of a pair's first half; any other operation is its own.
+#[tactic(auto, using(limits::proofs::BranchTests::tests), unfolding(crate::specs::Instruction::first_operation))]
 pub fn first_operation(operation: u8) -> u8
     ensures { result ≡ first_operation operation }
 {
-    if operation == Instruction::PAIR_STORE {
-        return Instruction::STORE;
+    match operation {
+        Instruction::PAIR_STORE => Instruction::STORE,
+        Instruction::PAIR_RELEASE => Instruction::RELEASE,
+        Instruction::PAIR_SWAP => Instruction::SWAP,
+        _ => operation,
     }
-    if operation == Instruction::PAIR_RELEASE {
-        return Instruction::RELEASE;
-    }
-    if operation == Instruction::PAIR_SWAP {
-        return Instruction::SWAP;
-    }
-    operation
 }
 
 // The number of bytes of an instruction, by its operation; an unknown operation has five.
@@ -140,9 +137,10 @@ pub fn instruction_size(operation: u8) -> usize
     ensures { (result ≡ instruction_size operation) × (result ≤ 10) }
 {
     if is_twofold(operation) {
-        return Instruction::HALF + Instruction::HALF;
+        2 * Instruction::HALF
+    } else {
+        Instruction::HALF
     }
-    Instruction::HALF
 }
 
 // The half in the first five bytes of `body`.
@@ -162,10 +160,10 @@ fn second_half(operation: u8, body: &[u8]) -> Half
     ensures { result ≡ second_half operation body.now }
 {
     if is_twofold(operation) {
-        let l = rest(body, Instruction::HALF);
-        return read_half(l);
+        read_half(rest(body, Instruction::HALF))
+    } else {
+        NO_HALF
     }
-    NO_HALF
 }
 
 // The instruction at the start of `body`.
@@ -182,111 +180,80 @@ pub fn read_instruction(body: &[u8]) -> Instruction
     }
 }
 
-// The ranges of the fields a, b and formula, in this order.
-fn three(first: Range, second: Range, formula: Range) -> Fields
-    ensures { result ≡ record { a = first; b = second; formula = formula } }
-{
-    Fields {
-        a: first,
-        b: second,
-        formula,
-    }
-}
-
 // The ranges of an operation's fields in a thread whose last point is `last`. For an unknown operation field a has an empty range.
+#[tactic(auto, using(limits::proofs::BranchTests::tests), unfolding(crate::specs::Instruction::fields_of))]
 pub fn fields_of(operation: u8, last: usize, sizes: Sizes) -> Fields
     ensures { result ≡ fields_of operation last sizes }
 {
     let unused = Range { low: 0, high: 0 };
     let register = Range {
         low: 1,
-        high: sizes.registers as usize,
+        high: usize::from(sizes.registers),
     };
     let word = Range {
         low: 1,
-        high: sizes.words as usize,
+        high: usize::from(sizes.words),
     };
     let formula = Range {
         low: 1,
-        high: sizes.formulas as usize,
+        high: usize::from(sizes.formulas),
     };
-    if operation == Instruction::ASSIGN {
-        return three(register, unused, formula);
-    }
-    if operation <= Instruction::ACQUIRE {
-        return three(register, word, unused);
-    }
-    if operation <= Instruction::SWAP {
-        return three(word, unused, formula);
-    }
-    if operation == Instruction::BRANCH {
-        let point = Range { low: 0, high: last };
-        return three(point, unused, formula);
-    }
-    if operation <= Instruction::FETCH_ADD {
-        return three(word, register, formula);
-    }
-    if operation <= Instruction::PAIR_SWAP {
-        return three(word, unused, formula);
-    }
-    if operation == Instruction::ASSIGN_TWO {
-        return three(register, unused, formula);
-    }
-    let nowhere = Range { low: 1, high: 0 };
-    three(nowhere, unused, formula)
+    let (a, b, formula) = match operation {
+        Instruction::ASSIGN | Instruction::ASSIGN_TWO => (register, unused, formula),
+        Instruction::LOAD..=Instruction::ACQUIRE => (register, word, unused),
+        Instruction::BRANCH => (Range { low: 0, high: last }, unused, formula),
+        Instruction::EXCHANGE..=Instruction::FETCH_ADD => (word, register, formula),
+        Instruction::STORE..=Instruction::SWAP | Instruction::PAIR_STORE..=Instruction::PAIR_SWAP =>
+            (word, unused, formula),
+        _ => (Range { low: 1, high: 0 }, unused, formula),
+    };
+    Fields { a, b, formula }
+}
+
+// Whether the number is in the range.
+fn inside(number: usize, range: Range) -> bool
+    ensures { result ≡ inside range number }
+{
+    in_range(number, range.low, range.high)
 }
 
 // Whether the three fields are in their ranges.
+#[tactic(auto, using(image_frames::proofs::Branches::Checks::joined), unfolding(crate::specs::Instruction::fields_fit))]
 fn fields_fit(instruction: Instruction, fields: Fields) -> bool
     ensures { result ≡ fields_fit instruction fields }
 {
-    if in_range(instruction.a as usize, fields.a.low, fields.a.high) {
-        if in_range(instruction.b as usize, fields.b.low, fields.b.high) {
-            return in_range(instruction.formula, fields.formula.low, fields.formula.high);
-        }
-    }
-    false
+    inside(usize::from(instruction.a), fields.a)
+        && inside(usize::from(instruction.b), fields.b)
+        && inside(instruction.formula, fields.formula)
 }
 
 // Whether a second half is an assignment with its fields in range.
+#[tactic(auto, using(crate::proofs::InstructionBranches::half_fits_search), unfolding(crate::specs::Instruction::half_fits))]
 fn half_fits(half: Half, sizes: Sizes) -> bool
     ensures { result ≡ half_fits sizes half }
 {
-    let assign = Instruction::ASSIGN as usize;
-    if in_range(half.operation as usize, assign, assign) {
-        if in_range(half.a as usize, 1, sizes.registers as usize) {
-            if in_range(half.b as usize, 0, 0) {
-                return in_range(half.formula, 1, sizes.formulas as usize);
-            }
-        }
-    }
-    false
+    half.operation == Instruction::ASSIGN
+        && in_range(usize::from(half.a), 1, usize::from(sizes.registers))
+        && half.b == 0
+        && in_range(half.formula, 1, usize::from(sizes.formulas))
 }
 
 // Whether the second half, if the operation has one, is in range; the registers of two assignments must differ.
+#[tactic(auto, using(crate::proofs::InstructionBranches::second_fits_branches, limits::proofs::BranchTests::tests))]
 fn second_fits(instruction: Instruction, sizes: Sizes) -> bool
     ensures { result ≡ second_fits sizes instruction }
 {
-    let h = instruction.second;
-    if is_twofold(instruction.operation) {
-        if half_fits(h, sizes) {
-            if instruction.operation == Instruction::ASSIGN_TWO {
-                return instruction.a != h.a;
-            }
-            return true;
-        }
-        return false;
-    }
-    true
+    let second = instruction.second;
+    !is_twofold(instruction.operation)
+        || half_fits(second, sizes)
+            && (instruction.operation != Instruction::ASSIGN_TWO || instruction.a != second.a)
 }
 
 // Whether every field of the instruction, and of its second half, is in its range.
+#[tactic(auto, using(crate::proofs::InstructionBranches::instruction_fits_branches, limits::proofs::BranchTests::tests))]
 pub fn instruction_fits(instruction: Instruction, last: usize, sizes: Sizes) -> bool
     ensures { result ≡ ranged last sizes instruction }
 {
-    let fields = fields_of(instruction.operation, last, sizes);
-    if fields_fit(instruction, fields) {
-        return second_fits(instruction, sizes);
-    }
-    false
+    fields_fit(instruction, fields_of(instruction.operation, last, sizes))
+        && second_fits(instruction, sizes)
 }

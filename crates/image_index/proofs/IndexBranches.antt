@@ -6,8 +6,8 @@ use mathlib.Core.Bool.{Bool, true, false, cond}
 use native.Mathlib.Numerals.{add-one, sub-one}
 use native.Mathlib.Omega.{arith}
 use mathlib.Core.Logic.{◌≢◌}
-use lib.ListN.{length, get_or, set, drop, take, replicate, drop_of_length-le, length-set, length-replicate, get_or-replicate}
-use lib.Seq.{drop-drop, get_or-set_same, get_or-set_other, set-get_or}
+use lib.ListN.{length, get_or, set, drop, take, replicate, length-set, length-replicate, get_or-replicate}
+use lib.Seq.{get_or-set_same, get_or-set_other, set-get_or}
 use lib.Dec.{leb, ltb, eqb}
 use borrow.Author.Tests.{eqb-true, eqb-false, lt-ltb, le-ltb, le-leb, lt-leb}
 use Rattle.limits.specs.Limits as Limits
@@ -17,45 +17,14 @@ use Rattle.image_frames.specs.Records.{body, start_of}
 use Rattle.image_header.specs.Thread.{last_point, begins}
 use Rattle.image_index.specs.IndexTable.{room, table_size, records_to, next_start, is_thread, first_from, first_thread, row_to, row_of, behind, rows_to, index_of}
 use Rattle.image_index.specs.declared.starts.FirstThread.{FirstThread}
-
--- from record to record
-
-module _ (s : List ℕ) (p : ℕ) where
-  pub next_past : length s ≤ p → length s ≡ next_start s p
-  unfolding next_start
-  next_past h = omega arith
-
-  pub next_over : (n : ℕ) → n ≡ le16 (drop p s) → length s - p < 2 → length s ≡ next_start s p
-  unfolding next_start
-  next_over n e h = omega arith
-
-  pub next_cut : (n : ℕ) → n ≡ le16 (drop p s) → length s - p - 2 < n → length s ≡ next_start s p
-  unfolding next_start
-  next_cut n e h = omega arith
-
-  pub next_in : (n : ℕ) → n ≡ le16 (drop p s) → 2 ≤ length s - p → n ≤ length s - p - 2 → p + 2 + n ≡ next_start s p
-  unfolding next_start
-  next_in n e h g = omega arith
-
-pub ruleset next_start_branches = (next_past, next_over, next_cut, next_in)
+use Rattle.limits.proofs.BranchTests.{tests}
+use Rattle.image_header.proofs.ThreadBranches.{from_start}
 
 -- a record's body
 
-module _ (s : List ℕ) (p : ℕ) (r : List ℕ) where
-  pub body_past : length s ≤ p → r ≡ take 0 (drop p s) → r ≡ body (drop p s)
-  unfolding body le16
-  body_past h e = rw (drop_of_length-le s h) e
-
-  module _ (n : ℕ) (e : n ≡ le16 (drop p s)) where
-    pub body_under : n < 2 → r ≡ take 0 (drop p s) → r ≡ body (drop p s)
-    unfolding body
-    body_under h d = let z : n - 2 ≡ 0 = omega arith in rw (← e, z) d
-
-    pub body_in : r ≡ take (n - 2) (drop (p + 4) s) → r ≡ body (drop p s)
-    unfolding body
-    body_in d = rw (← e, drop-drop 4 p s) d
-
-pub ruleset body_at_branches = (body_past, body_under, body_in)
+pub body_in : (s l r : List ℕ) (p n : ℕ) → l ≡ drop p s → n ≡ le16 (drop 0 l) → r ≡ take (n - 2) (drop 4 l) → r ≡ body (drop p s)
+unfolding body
+body_in s l r p n e d h = rw (d, e) at h
 
 -- room
 
@@ -188,6 +157,8 @@ module _ (s : List ℕ) (n i p : ℕ) (h : i < n) (e : first_from s 0 0 n ≡ fi
 pub first_start : (s : List ℕ) (n : ℕ) → first_from s 0 0 n ≡ first_from s 0 0 (n - 0)
 first_start s n = let z : n - 0 ≡ n = omega arith in rw z
 
+pub ruleset first_thread_branches = (first_none, first_ended, first_found, first_next, first_start)
+
 -- the places of one thread
 
 module _ (l : List ℕ) (from : ℕ) (b : List ℕ) where
@@ -311,6 +282,8 @@ rows_room s l m from p j e h g = omega (arith, ap length e ∙ rows_length s l f
 pub rows_same : (s l m : List ℕ) (from p j : ℕ) → m ≡ rows_to s l from p j → length m ≡ length l
 rows_same s l m from p j e = ap length e ∙ rows_length s l from p j
 
+pub ruleset fill_rows_branches = (rows_same, rows_none, behind_none, rows_more, behind_more, rows_room, rows_all)
+
 -- the whole table
 
 module _ (s l : List ℕ) (n : ℕ) (e : n ≡ room s) (d : l ≡ records_to s n) where
@@ -342,3 +315,11 @@ short_zeros s h = let q : 577 ≡ table_size s = omega (arith, size_is s, room_s
 
 pub long_zeros : (s : List ℕ) → 1024 < length s → replicate {A = ℕ} 4588 0 ≡ replicate (table_size s) 0
 long_zeros s h = let q : 4588 ≡ table_size s = omega (arith, size_is s, room_long s h) in ap (λ (n : ℕ). replicate {A = ℕ} n 0) q
+
+-- each with the tests of branches, for the function of its name
+
+pub ruleset fill_row_search = (fill_row_branches, row_same, from_start, tests)
+
+pub ruleset fill_records_search = (fill_records_branches, room_most, tests)
+
+pub ruleset fill_index_search = (fill_index_branches, index_long, tests)

@@ -4,7 +4,8 @@
 // end, so it is 0 for a record that is not there, and only the entries of existing records need to be written into a zeroed table.
 #![tactic(auto)]
 
-pub mod look_up;
+pub mod indexed;
+pub mod lent;
 pub mod starts;
 pub mod table;
 pub mod walk;

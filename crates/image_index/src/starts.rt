@@ -17,6 +17,7 @@ pub struct FirstThread {
 }
 
 // Whether the record at `at` is a thread's.
+#[tactic(auto, using(crate::proofs::IndexBranches::thread_is, limits::proofs::BranchTests::tests))]
 fn is_thread(image: &[u8], at: usize) -> bool
     requires { at < length image.now }
     ensures { result ≡ is_thread image.now at }
@@ -25,30 +26,20 @@ fn is_thread(image: &[u8], at: usize) -> bool
 }
 
 // Finds the first thread's record among the first `n` records; without one, the record after them or the image's end.
+#[tactic(auto, using(crate::proofs::IndexBranches::first_thread_branches, limits::proofs::BranchTests::tests))]
 pub fn first_thread(image: &[u8], n: usize) -> FirstThread
     ensures { result ≡ first_from image.now 0 0 n }
 {
-    let mut p: usize = 0;
-    let mut i: usize = 0;
-    while i < n {
-        if image.len() <= p {
-            return FirstThread {
-                number: i,
-                position: p,
-            };
+    let mut position = 0;
+    for number in 0..n {
+        if image.len() <= position || is_thread(image, position) {
+            return FirstThread { number, position };
         }
-        if is_thread(image, p) {
-            return FirstThread {
-                number: i,
-                position: p,
-            };
-        }
-        p = next_start(image, p);
-        i += 1;
+        position = next_start(image, position);
     }
     FirstThread {
-        number: i,
-        position: p,
+        number: n,
+        position,
     }
 }
 
@@ -56,39 +47,31 @@ pub fn first_thread(image: &[u8], n: usize) -> FirstThread
 fn row_length(body: &[u8]) -> usize
     ensures { (result ≡ min 16 (last_point body.now)) × (result ≤ 16) }
 {
-    let last = last_point(body);
-    if last < Limits::POINTS {
-        return last;
-    }
-    Limits::POINTS
+    last_point(body).min(Limits::POINTS)
 }
 
 // Writes where the instructions of one thread begin, into the 16 entries from `from` on.
+#[tactic(auto, using(crate::proofs::IndexBranches::fill_row_search))]
 fn fill_row<'a, 'b>(body: &'a [u8], index: &'b mut [usize], from: usize)
     requires { from + 16 ≤ length index.old }
     ensures { index.new ≡ row_of index.old from body.now }
 {
-    let n = row_length(body);
-    let mut at: usize = 0;
-    let mut p: usize = 0;
-    while p < n {
+    let mut at = 0;
+    for p in 0..row_length(body) {
         index[from + p] = at;
         at = begins_behind(body, p, at);
-        p += 1;
     }
 }
 
 // Writes the entries of four threads, whose records follow one another from `position` on.
+#[tactic(auto, using(crate::proofs::IndexBranches::fill_rows_branches, limits::proofs::BranchTests::tests))]
 pub fn fill_rows<'a, 'b>(image: &'a [u8], index: &'b mut [usize], from: usize, position: usize)
     requires { from + 64 ≤ length index.old }
     ensures { index.new ≡ rows_to image.now index.old from position 4 }
 {
     let mut at = position;
-    let mut j: usize = 0;
-    while j < Limits::THREADS {
-        let b = body_at(image, at);
-        fill_row(b, index, from + 16 * j);
+    for j in 0..Limits::THREADS {
+        fill_row(body_at(image, at), index, from + Limits::POINTS * j);
         at = next_start(image, at);
-        j += 1;
     }
 }

@@ -27,40 +27,43 @@ impl IndexSize {
 }
 
 // The number of records that the table of this image has entries for.
+#[tactic(auto, using(crate::proofs::IndexBranches::room_for_branches, limits::proofs::BranchTests::tests))]
 pub fn room_for(image: &[u8]) -> usize
     ensures { (result ≡ room image.now) × (result ≤ 4523) }
 {
     if image.len() <= IndexSize::SHORT_IMAGE {
-        return IndexSize::SHORT_RECORDS;
+        IndexSize::SHORT_RECORDS
+    } else {
+        Limits::RECORDS
     }
-    Limits::RECORDS
 }
 
 // Writes the entries of the records into a zeroed table. It stops at the image's end: the other entries are 0 already.
+// Zeroed stays a clause: the table is the caller's array (fixed memory), and a type for it would write it once more.
+#[tactic(auto, using(crate::proofs::IndexBranches::fill_records_search))]
 fn fill_records<'a, 'b>(image: &'a [u8], index: &'b mut [usize], n: usize)
     requires { (index.old ≡ replicate (table_size image.now) 0) × (n ≡ room image.now) }
     ensures { index.new ≡ records_to image.now n }
 {
-    let mut p: usize = 0;
-    let mut i: usize = 0;
-    while i < n {
-        if image.len() <= p {
+    let mut at = 0;
+    for i in 0..n {
+        if image.len() <= at {
             return;
         }
-        index[i] = image.len() - p;
-        p = next_start(image, p);
-        i += 1;
+        index[i] = image.len() - at;
+        at = next_start(image, at);
     }
 }
 
 // Fills the index of an image; `index` is a zeroed table of table_size(image) entries.
+#[tactic(auto, using(crate::proofs::IndexBranches::fill_index_search))]
 pub fn fill_index<'a, 'b>(image: &'a [u8], index: &'b mut [usize])
     requires { index.old ≡ replicate (table_size image.now) 0 }
     ensures { index.new ≡ index_of image.now }
 {
     let n = room_for(image);
     fill_records(image, index, n);
-    let f = first_thread(image, n);
-    index[n] = f.number;
-    fill_rows(image, index, n + 1, f.position);
+    let first = first_thread(image, n);
+    index[n] = first.number;
+    fill_rows(image, index, n + 1, first.position);
 }

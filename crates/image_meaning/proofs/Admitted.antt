@@ -8,15 +8,14 @@ use Rattle.logic.specs.Claims.{NeverBoth}
 use Rattle.image_frames.specs.declared.fault.Fault.{Fault}
 use Rattle.image_frames.specs.Records.{bodies}
 use Rattle.image_header.specs.declared.sizes.Sizes.{Sizes}
-use Rattle.image.specs.Decode.{decoded}
-use Rattle.image.specs.declared.decode.Decoded.{Decoded}
-use Rattle.image.specs.declared.decode.Decoded.TheVariants.{Refused, Sound}
+use Rattle.image.specs.Decode.{decoded, Decoded}
 use Rattle.logic_outline.specs.Verdict.{Image, Admitted, accepted, finding}
 use Rattle.logic_outline.proofs.Accept.{accepted_sound, accepted_all, accepted_never}
 use Rattle.image_meaning.specs.Image.{image_of, refused, read, result_of, decode}
 use Rattle.image_meaning.proofs.RecordsChecked.{Checks, sound_checks}
 use Rattle.image_meaning.proofs.WellFormedProgram.{well-formed}
 use Rattle.image_meaning.proofs.LinesAdmitted.{line_admitted, line_lower, claim_fine}
+use Rattle.std.specs.Prelude.{Ok, Err}
 
 pub checks_admitted : (z : Sizes) (l : List (List ℕ)) → Checks z l → Admitted (image_of z l)
 checks_admitted z l c = record {
@@ -26,7 +25,7 @@ checks_admitted z l c = record {
   claims = λ i b. let h = claim_fine z l c i b in (h.thread, h.other);
 }
 
-pub sound_admitted : (s : List ℕ) (z : Sizes) → decoded s ≡ Sound z → Admitted (image_of z (bodies s))
+pub sound_admitted : (s : List ℕ) (z : Sizes) → decoded s ≡ Ok z → Admitted (image_of z (bodies s))
 sound_admitted s z e = checks_admitted z (bodies s) (sound_checks s z e)
 
 -- what is read was sound
@@ -38,8 +37,8 @@ unfolding decode
 decode_admitted s D e = go (decoded s) refl e
   where
     go : (d : Decoded) → decoded s ≡ d → result_of (bodies s) d ≡ read D → Admitted D
-    go (Refused f i) h q = absurd (refused_read f i D q)
-    go (Sound z) h q = let x : image_of z (bodies s) ≡ D = cc in subst Admitted x (sound_admitted s z h)
+    go (Err r) h q = absurd (refused_read r.fault r.«record» D q)
+    go (Ok z) h q = let x : image_of z (bodies s) ≡ D = cc in subst Admitted x (sound_admitted s z h)
 
 pub accepted_every_run : (s : List ℕ) (D : Image) (n : ℕ) → decode s ≡ read D → finding D ≡ accepted n → EveryRun D.program D.outline
 accepted_every_run s D n e h = accepted_sound D (decode_admitted s D e) n (accepted_all D n h).0

@@ -14,10 +14,10 @@ use Rattle.semantics.proofs.Base.{is_true}
 use Rattle.formula.specs.Codes as Codes
 use Rattle.limits.specs.Limits.{nesting}
 use Rattle.formula.specs.Tree.{Tree, parse_tree}
-use Rattle.formula.specs.Reader.{malformed, fault_at, sort_of, reading_of}
+use Rattle.std.specs.Prelude.{Ok, Err}
+use Rattle.formula.specs.Reader.{fault_named, fault_at, sort_of, reading_of}
 use Rattle.formula.specs.declared.reader.Counts.{Counts}
-use Rattle.formula.specs.declared.reader.Reading.{Reading}
-use Rattle.image_frames.specs.declared.fault.Checked.TheVariants.{Passed}
+use Rattle.formula.specs.declared.reader.Fault.TheVariants.{Malformed}
 use Rattle.formula_compare.specs.Occurs.{occurs, register, start, shared}
 use Rattle.image_header.specs.declared.sizes.Sizes.{Sizes}
 use Rattle.image_header.specs.Header.{value_range}
@@ -33,28 +33,29 @@ use Rattle.formula_trees.proofs.ReadableBody.{reading_fault, reading_sorted}
 use Rattle.image_meaning.specs.Formulas.{formula}
 use Rattle.image_meaning.proofs.RecordsChecked.{Checks, formula_passed}
 use Rattle.image_meaning.proofs.PassedChecks.{unless_passed, faulty_passed}
+use Rattle.image_frames.specs.Fault.{passed}
 
 -- what is read without a fault is a formula of its first code's sort
-read_passed : (b : List ℕ) (n : Counts) → read (reading_of b n) ≡ Passed → reading_of b n ≡ Reading.Formula (sort_of b)
+read_passed : (b : List ℕ) (n : Counts) → read (reading_of b n) ≡ passed → reading_of b n ≡ Ok (sort_of b)
 unfolding read reading_of
 read_passed b n e = go (eqb (fault_at b n nesting (sort_of b) 0) 0) (eqb (parse_tree b nesting 0).end (length b)) e
   where
-    go : (c d : Bool) → read (cond c (cond d (Reading.Formula (sort_of b)) (Reading.Fault malformed))
-        (Reading.Fault (fault_at b n nesting (sort_of b) 0))) ≡ Passed
-        → cond c (cond d (Reading.Formula (sort_of b)) (Reading.Fault malformed))
-        (Reading.Fault (fault_at b n nesting (sort_of b) 0)) ≡ Reading.Formula (sort_of b)
+    go : (c d : Bool) → read (cond c (cond d (Ok (sort_of b)) (Err Malformed))
+        (Err (fault_named (fault_at b n nesting (sort_of b) 0)))) ≡ passed
+        → cond c (cond d (Ok (sort_of b)) (Err Malformed))
+        (Err (fault_named (fault_at b n nesting (sort_of b) 0))) ≡ Ok (sort_of b)
     go true true h = refl
-    go true false h = absurd (faulty_passed (fault_of malformed) h)
-    go false d h = absurd (faulty_passed (fault_of (fault_at b n nesting (sort_of b) 0)) h)
+    go true false h = absurd (faulty_passed (fault_of Malformed) h)
+    go false d h = absurd (faulty_passed (fault_of (fault_named (fault_at b n nesting (sort_of b) 0))) h)
 
 module _ (z : Sizes) (l : List (List ℕ)) (c : Checks z l) (k : ℕ) (low : 1 ≤ k) (high : k ≤ z.formulas) where
   abbrev body : List ℕ
   body = get_or l k []
 
-  pub formula_read : (p : ℕ) → sort_of body ≡ p → reading_of body (counts_of z) ≡ Reading.Formula p
+  pub formula_read : (p : ℕ) → sort_of body ≡ p → reading_of body (counts_of z) ≡ Ok p
   unfolding Formulas.formula
   formula_read p e =
-      read_passed body (counts_of z) (unless_passed _ _ _ (formula_passed z l c k low high)).1 ∙ ap Reading.Formula e
+      read_passed body (counts_of z) (unless_passed _ _ _ (formula_passed z l c k low high)).1 ∙ ap Ok e
 
   sorted : (p : ℕ) → sort_of body ≡ p → Sorted (sort_at p) (tree_of body)
   sorted p e = reading_sorted body (counts_of z) p (formula_read p e)

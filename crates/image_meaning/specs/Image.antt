@@ -1,13 +1,11 @@
 -- What an image means: a fault with its record, or program, outline, certificate, the lines that its obligations name, and claims.
-use Rattle.std.specs.Prelude.{List, [], ℕ, ◌+◌, get_or, drop}
+use Rattle.std.specs.Prelude.{List, [], ℕ, ◌+◌, get_or, drop, Ok, Err}
 use Rattle.limits.specs.Numbers.{le16, numbers}
 use Rattle.image_frames.specs.declared.fault.Fault.{Fault}
 use Rattle.image_frames.specs.Records.{bodies}
 use Rattle.image_header.specs.declared.sizes.Sizes.{Sizes}
 use Rattle.image_bodies.specs.PointCounts.{obligation_count}
-use Rattle.image.specs.Decode.{decoded}
-use Rattle.image.specs.declared.decode.Decoded.{Decoded}
-use Rattle.image.specs.declared.decode.Decoded.TheVariants.{Refused, Sound}
+use Rattle.image.specs.Decode.{decoded, Decoded}
 use Rattle.logic.specs.Claims.{Claim}
 use Rattle.logic_outline.specs.Verdict.{Claims, Image}
 use Rattle.image_meaning.specs.Program.{program_of, outline_of}
@@ -55,8 +53,8 @@ pub data Result : Type 0 where
 
 -- what the image says, if it is well-formed
 abbrev pub result_of : List (List ℕ) → Decoded → Result
-result_of l (Refused f r) = refused f r
-result_of l (Sound z) = read (image_of z l)
+result_of l (Err r) = refused r.fault r.«record»
+result_of l (Ok z) = read (image_of z l)
 
 -- the bytes of an image to what it says
 unfoldable pub decode : List ℕ → Result

@@ -7,6 +7,7 @@ use native.Mathlib.Nat.{add-zero}
 use native.Mathlib.Numerals.{add-one, sub-one}
 use native.Mathlib.Omega.{arith}
 use lib.ListN.{length, get_or, drop, take, drop_of_length-le, length-drop, get_or-eq_default}
+use Rattle.std.specs.List.{list_all, range_with_len}
 use lib.Seq.{get_or-drop, drop-drop, drop-cons, take-nil, take_all}
 use Rattle.limits.specs.Numbers.{le16, has, numbers, within, every, nth}
 
@@ -109,28 +110,23 @@ nth_of l m x r e d = rw (← e) d
 
 pub ruleset given = (within_of, every_of, nth_of)
 
--- a loop over a list, of whose n members the ones from i on are left
+-- `all` of an iterator over the list, or over the indices of its members
 
-every_cons : {A : Type 0} (f : A → Bool) (x : A) (l : List A) → every f (x ∷ l) ≡ f x && every f l
+every_list : {A : Type 0} (f : A → Bool) (l : List A) → list_all f l ≡ every f l
 unfolding every
-every_cons f x l = refl
+every_list f [] = refl
+every_list f (x ∷ l) = ap (λ b. f x && b) (every_list f l)
 
-pub each_start : {A : Type 0} (f : A → Bool) (l : List A) → every f l ≡ every f (drop 0 l)
-each_start f l = refl
+pub every_all : {A : Type 0} (f : A → Bool) (l : List A) {u : Bool} → u ≡ list_all f l → u ≡ every f l
+every_all f l e = e ∙ every_list f l
 
-module _ {A : Type 0} (f : A → Bool) (i n : ℕ) (l : List A) (g : Bool) (d x : A) (u : Bool) (lt : i < n) (len : length l ≡ n)
-    (e : g ≡ every f (drop i l)) (ex : x ≡ get_or l i d) (eu : u ≡ f x) where
-  turn : g ≡ u && every f (drop (suc i) l)
-  turn = let h : i < length l = rw len lt in rw (e, drop-cons l i d h, every_cons, ← ex, ← eu)
-
-  pub each_off : u ≡ false → false ≡ g
-  each_off q = rw (turn, q)
-
-  pub each_more : u ≡ true → g ≡ every f (drop (i + 1) l)
-  each_more q = rw (turn, q, add-one i)
-
-pub each_all : {A : Type 0} (f : A → Bool) (i n : ℕ) (l : List A) (g : Bool) → n ≤ i → length l ≡ n → g ≡ every f (drop i l) → true ≡ g
+each_index : {A : Type 0} (f : A → Bool) (l : List A) (d : A) (n k : ℕ) → length l ≡ k + n
+    → list_all (λ i. f (get_or l i d)) (range_with_len k n) ≡ every f (drop k l)
 unfolding every
-each_all f i n l g h len e = let q : length l ≤ i = rw len h in rw (e, drop_of_length-le l q)
+each_index f l d zero k e = let q : length l ≤ k = omega arith in rw (drop_of_length-le l q)
+each_index f l d (suc n) k e = let h : k < length l = omega arith in
+    rw (drop-cons l k d h, each_index f l d n (k + 1) (omega arith), add-one k)
 
-pub ruleset range_branches = (each_start, each_off, each_more, each_all, numbers_length)
+pub each_number : (f : ℕ → Bool) (n : ℕ) (l : List ℕ) {u : Bool} → u ≡ list_all (λ i. f (get_or (numbers n l) i 0)) (range_with_len 0 n)
+    → u ≡ every f (numbers n l)
+each_number f n l e = e ∙ each_index f (numbers n l) 0 n 0 (omega (arith, numbers_length n l))

@@ -30,6 +30,7 @@ pub fn byte_at(bytes: &[u8], at: usize) -> usize
 }
 
 // The 16-bit little-endian number at position `at`.
+#[tactic(auto, using(crate::proofs::Numbers::read_branches, crate::proofs::BranchTests::tests))]
 pub fn u16_at(bytes: &[u8], at: usize) -> usize
     ensures { (result ≡ le16 (drop at bytes.now)) × (result < 65536) }
 {
@@ -61,6 +62,7 @@ pub fn rest(bytes: &[u8], from: usize) -> &[u8]
 }
 
 // Byte number `i`, counted from 1; 0 for number 0 and past the end.
+#[tactic(auto, using(crate::proofs::Numbers::read_branches, crate::proofs::BranchTests::tests))]
 pub fn nth_byte(bytes: &[u8], i: usize) -> usize
     ensures { (result ≡ nth bytes.now i 0) × (result < 256) }
 {
@@ -71,13 +73,11 @@ pub fn nth_byte(bytes: &[u8], i: usize) -> usize
 }
 
 // The number at index `i`, from 0, of a list of `n` 16-bit numbers; 0 outside the list.
+#[tactic(auto, using(crate::proofs::Numbers::number_at_branches, crate::proofs::BranchTests::tests))]
 pub fn number_at(bytes: &[u8], n: usize, i: usize) -> usize
     ensures { (result ≡ get_or (numbers n bytes.now) i 0) × (result < 65536) }
 {
-    if n <= i {
-        return 0;
-    }
-    if bytes.len() <= i {
+    if n <= i || bytes.len() <= i {
         return 0;
     }
     u16_at(bytes, 2 * i)

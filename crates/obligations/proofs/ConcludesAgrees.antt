@@ -45,6 +45,8 @@ use Rattle.image_meaning.proofs.RecordsChecked.{Checks}
 use Rattle.image_meaning.proofs.LinesAdmitted.{Claimed, claim_fine}
 use Rattle.image_meaning.proofs.WellFormedProgram.{points_few, well-formed}
 use Rattle.image_access.proofs.AccessAgree.{outline_is, test_is}
+use Rattle.rules_table.specs.RuleTable.{form_number}
+use Rattle.rules_table.specs.declared.rule.Form.TheVariants.{Triple, Pair}
 use Rattle.rules_line.specs.LineConclusion.{conclusion_of}
 use Rattle.rules_line.proofs.LineStatements.{conclusion_trees}
 use Rattle.obligations.specs.Goal.{next_point, acting_form, asserted_at, goal_start, goal_action, goal_next, goal_step, goal_target, goal_stable, goal_claim, goal_at, implied, two_holes, claim_at}
@@ -84,11 +86,11 @@ module _ (f g : Assertion) (u w : Tree) (p : to_tree f ≡ u) (q : to_tree g ≡
 
   -- of an instruction, of a pair its whole
   taking_same : (t k : ℕ) (c : Instr) (op : ℕ) → is_pair c ≡ pair_operation op → (x : Statement)
-      → compared (acting_form op) t k u w (concluded x) ≡ same_statement (taking t k c f g) x
+      → compared (form_number (acting_form op)) t k u w (concluded x) ≡ same_statement (taking t k c f g) x
   unfolding acting_form
   taking_same t k c op e x = rw (← e) (go (is_pair c))
     where
-      go : (b : Bool) → compared (cond b paired hoare) t k u w (concluded x) ≡ same_statement
+      go : (b : Bool) → compared (form_number (cond b Pair Triple)) t k u w (concluded x) ≡ same_statement
           (elim b [ true ↦ pair t k f g | false ↦ triple t k f g ]) x
       go true = pair_same t k x
       go false = kept_same t k x
@@ -147,7 +149,7 @@ module _ (s : List ℕ) (z : Sizes) (c : Checks z (bodies s)) where
       unfolding meets goal_action
       action_asked =
           step_compared s (conclusion_of s z n) (asserted_at s z t k) (asserted_at s z t (next_point k)) (acting_form (its t k).operation) t k
-          ∙ ap (compared (acting_form (its t k).operation) t k here following) (conclusion_trees s z c n wn)
+          ∙ ap (compared (form_number (acting_form (its t k).operation)) t k here following) (conclusion_trees s z c n wn)
           ∙ taking_same (O t k) (O t (suc k)) here following here_is (behind_is t k w h) t k (P.code t k) (its t k).operation
           (pair_is l (its t k)) (says n)
 
@@ -209,7 +211,7 @@ module _ (s : List ℕ) (z : Sizes) (c : Checks z (bodies s)) where
         let p = asserted_is u j w h in
         let q = asserted_is t k y (omega arith) in
         kept_compared s (conclusion_of s z n) (asserted_at s z u j) (asserted_at s z t k) (acting_form (its t k).operation) t k
-        ∙ ap (compared (acting_form (its t k).operation) t k (both (tree_at s (asserted_at s z u j)) (tree_at s (asserted_at s z t k)))
+        ∙ ap (compared (form_number (acting_form (its t k).operation)) t k (both (tree_at s (asserted_at s z u j)) (tree_at s (asserted_at s z t k)))
         (tree_at s (asserted_at s z u j))) (conclusion_trees s z c n wn)
         ∙ taking_same (both_a (O u j) (O t k)) (O u j) (both (tree_at s (asserted_at s z u j)) (tree_at s (asserted_at s z t k)))
         (tree_at s (asserted_at s z u j)) (ap₂ both p q) p t k

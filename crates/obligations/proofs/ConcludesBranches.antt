@@ -1,9 +1,12 @@
 -- The ways through the functions that hold a line against what is wanted, one law for each.
-use mathlib.Core.Path.{◌≡◌, ap, ◌∙◌}
+use mathlib.Core.Path.{◌≡◌}
 use mathlib.Core.Bool.{Bool, true, false}
 use mathlib.Core.List.{List}
 use Prim.Native.Nat.{ℕ}
 use borrow.Author.Tests.{eq-eqb, ne_eqb}
+use Rattle.std.specs.Prelude.{Result, Ok, Err, Option, is_some}
+use Rattle.limits.proofs.BranchTests.{tests}
+use Rattle.obligations.specs.declared.concludes.Unmet.TheVariants.{NoLine, SaysElse, Unjustified}
 use Rattle.image_frames.specs.Records.{bodies}
 use Rattle.image_header.specs.declared.sizes.Sizes.{Sizes}
 use Rattle.formula_match.specs.declared.matching_whole.Whole.{Whole}
@@ -20,19 +23,16 @@ use Rattle.obligations.specs.declared.goal.Goal.{Goal}
 use Rattle.obligations.specs.Goal.{goal_bytes, goal_claim, goal_at}
 use Rattle.obligations.specs.Concludes.{meets, concludes_at, sustained_at, code_at}
 
-pub said_is : (s : List ℕ) (z : Sizes) (w : Goal) (n : ℕ) (c : Conclusion) (m : Whole) → c ≡ conclusion_of s z n
-    → m ≡ match_conclusion s goal_bytes w.template w.form w.thread w.point c w.bind → m.ok ≡ meets s z w n
+-- y: the image's bytes
+pub said_is : (s y : List ℕ) (z : Sizes) (w : Goal) (n : ℕ) (c : Conclusion) (m : Option Whole) (b : Bool) → y ≡ s → c ≡ conclusion_of s z n
+    → m ≡ match_conclusion y goal_bytes w.template w.form w.thread w.point c w.bind → b ≡ is_some m → b ≡ meets s z w n
 unfolding meets
-said_is s z w n c m ec em =
-    ap (λ (q : Whole). q.ok)
-    (em ∙ ap (λ (d : Conclusion). match_conclusion s goal_bytes w.template w.form w.thread w.point d w.bind) ec)
+said_is s y z w n c m b e ec em d = rw (← ec, ← e, ← em) d
 
 pub concludes_is : (s : List ℕ) (z : Sizes) (o : Obligation) (n : ℕ) (w : Goal) (r : Bool) → w ≡ goal_at s z o → r ≡ meets s z w n
     → r ≡ concludes_at s z o n
 unfolding concludes_at
 concludes_is s z o n w r ew er = rw (← ew) er
-
-pub ruleset concludes_branches = (said_is, concludes_is)
 
 module _ (s : List ℕ) (z : Sizes) (m : Marks) (i : ℕ) (c : Claimed) (e : c ≡ claimed_in (claim_body z (bodies s) i)) where
   pub sustained_none : c.line ≡ 0 → false ≡ sustained_at s z m i
@@ -48,25 +48,34 @@ module _ (s : List ℕ) (z : Sizes) (m : Marks) (i : ℕ) (c : Claimed) (e : c �
     unfolding sustained_at
     sustained_marked r h d = rw (← e, ne_eqb _ _ n, ← ew, ← eb, h) d
 
-pub ruleset is_sustained_branches = (sustained_none, sustained_else, sustained_marked)
-
 module _ (s : List ℕ) (z : Sizes) (m : Marks) (o : Obligation) (n : ℕ) where
-  pub code_none : n ≡ 0 → 20 ≡ code_at s z m o n
+  pub code_none : n ≡ 0 → Err NoLine ≡ code_at s z m o n
   unfolding code_at
   code_none h = rw (eq-eqb _ _ h)
 
   module _ (h : n ≡ 0 → ⊥) (b : Bool) (e : b ≡ concludes_at s z o n) where
-    pub code_else : b ≡ false → 21 ≡ code_at s z m o n
+    pub code_else : b ≡ false → Err SaysElse ≡ code_at s z m o n
     unfolding code_at
     code_else f = rw (ne_eqb _ _ h, ← e, f)
 
     module _ (f : b ≡ true) (c : Bool) (d : c ≡ is_marked m n) where
-      pub code_unmarked : c ≡ false → 22 ≡ code_at s z m o n
+      pub code_unmarked : c ≡ false → Err Unjustified ≡ code_at s z m o n
       unfolding code_at
       code_unmarked g = rw (ne_eqb _ _ h, ← e, f, ← d, g)
 
-      pub code_met : c ≡ true → 0 ≡ code_at s z m o n
+      pub code_met : c ≡ true → Ok tt ≡ code_at s z m o n
       unfolding code_at
       code_met g = rw (ne_eqb _ _ h, ← e, f, ← d, g)
 
-pub ruleset code_at_branches = (code_none, code_else, code_unmarked, code_met)
+pub ruleset concludes_branches = (
+  said_is,
+  concludes_is,
+  sustained_none,
+  sustained_else,
+  sustained_marked,
+  code_none,
+  code_else,
+  code_unmarked,
+  code_met,
+  tests,
+)

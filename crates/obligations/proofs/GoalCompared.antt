@@ -10,7 +10,11 @@ use Rattle.formula.specs.Tree.{Tree, none, node, node_at, parse_tree}
 use Rattle.formula_compare.specs.Same.{same_tree}
 use Rattle.formula_match.specs.Template.{hole}
 use Rattle.formula_match.specs.MatchPlaces.{proper}
+use Rattle.std.specs.Prelude.{is_some}
 use Rattle.formula_trees.specs.StatementTree.{TreeConclusion, implication, placed}
+use Rattle.rules_table.specs.RuleTable.{form_number}
+use Rattle.rules_table.specs.declared.rule.Form.{Form}
+use Rattle.rules_table.specs.declared.rule.Form.TheVariants.{Implication}
 use Rattle.image_access.specs.AccessTrees.{tree_at}
 use Rattle.rules_line.specs.Conclusion.{concluded_at, match_conclusion}
 use Rattle.rules_line.specs.declared.conclusion.Conclusion.{Conclusion}
@@ -68,16 +72,17 @@ abbrev pub compared : ℕ → ℕ → ℕ → Tree → Tree → TreeConclusion �
 compared form t k u w v = placed form t k v && (same_tree u v.left && same_tree w v.right)
 
 module _ (s : List ℕ) (c : Conclusion) (a : ℕ) where
-  pub start_compared : (match_conclusion s goal_bytes start_at implication 0 0 c (one_hole a)).ok ≡ compared implication 0 0 starting
+  pub start_compared : is_some (match_conclusion s goal_bytes start_at Implication 0 0 c (one_hole a)) ≡ compared implication 0 0 starting
       (tree_at s a) (concluded_at s c)
   unfolding one_hole has_operand
   start_compared =
-      filled_is s goal_bytes start_at 0 0 implication starting (hole 0) (one_hole a) c (record { at = refl; left = refl; num = refl })
+      filled_is s goal_bytes start_at 0 0 Implication starting (hole 0) (one_hole a) c (record { at = refl; left = refl; num = refl })
       start_stands
       (λ d h. (refl, h.tree 0 (tree_at s a) refl))
 
   module _ (e : ℕ) where
-    pub step_compared : (form t k : ℕ) → (match_conclusion s goal_bytes step_at form t k c (two_holes a e)).ok ≡ compared form t k
+    pub step_compared : (form : Form) (t k : ℕ) → is_some (match_conclusion s goal_bytes step_at form t k c (two_holes a e))
+        ≡ compared (form_number form) t k
         (tree_at s a) (tree_at s e) (concluded_at s c)
     unfolding two_holes has_operand
     step_compared form t k =
@@ -85,7 +90,8 @@ module _ (s : List ℕ) (c : Conclusion) (a : ℕ) where
         step_stands
         (λ d h. (h.tree 0 (tree_at s a) refl, h.tree 1 (tree_at s e) refl))
 
-    pub kept_compared : (form t k : ℕ) → (match_conclusion s goal_bytes kept_at form t k c (two_holes a e)).ok ≡ compared form t k
+    pub kept_compared : (form : Form) (t k : ℕ) → is_some (match_conclusion s goal_bytes kept_at form t k c (two_holes a e))
+        ≡ compared (form_number form) t k
         (both (tree_at s a) (tree_at s e)) (tree_at s a) (concluded_at s c)
     unfolding two_holes has_operand
     kept_compared form t k =
@@ -93,31 +99,31 @@ module _ (s : List ℕ) (c : Conclusion) (a : ℕ) where
         (record { at = refl; left = refl; num = refl }) kept_stands
         (λ d h. (ap₂ both (h.tree 0 (tree_at s a) refl) (h.tree 1 (tree_at s e) refl), h.tree 0 (tree_at s a) refl))
 
-    pub claim_compared : (match_conclusion s goal_bytes claim_at implication 0 0 c (two_holes a e)).ok ≡ compared implication 0 0
+    pub claim_compared : is_some (match_conclusion s goal_bytes claim_at Implication 0 0 c (two_holes a e)) ≡ compared implication 0 0
         (both (tree_at s a) (tree_at s e)) falsity (concluded_at s c)
     unfolding two_holes has_operand
     claim_compared =
-        filled_is s goal_bytes claim_at 0 0 implication (both (hole 0) (hole 1)) falsity (two_holes a e) c
+        filled_is s goal_bytes claim_at 0 0 Implication (both (hole 0) (hole 1)) falsity (two_holes a e) c
         (record { at = refl; left = refl; num = refl }) claim_stands
         (λ d h. (ap₂ both (h.tree 0 (tree_at s a) refl) (h.tree 1 (tree_at s e) refl), refl))
 
     module _ (b : ℕ) where
-      pub next_compared : (match_conclusion s goal_bytes next_at implication 0 0 c (three_holes a e b)).ok ≡ compared implication 0 0
+      pub next_compared : is_some (match_conclusion s goal_bytes next_at Implication 0 0 c (three_holes a e b)) ≡ compared implication 0 0
           (both (tree_at s a) (holding (negated (tree_at s e)))) (tree_at s b) (concluded_at s c)
       unfolding three_holes has_operand
       next_compared =
-          filled_is s goal_bytes next_at 0 0 implication (both (hole 0) (holding (negated (hole 1)))) (hole 2) (three_holes a e b) c
+          filled_is s goal_bytes next_at 0 0 Implication (both (hole 0) (holding (negated (hole 1)))) (hole 2) (three_holes a e b) c
           (record { at = refl; left = refl; num = refl }) next_stands
           (λ d h. (
             ap₂ (λ (x y : Tree). both x (holding (negated y))) (h.tree 0 (tree_at s a) refl) (h.tree 1 (tree_at s e) refl),
             h.tree 2 (tree_at s b) refl,
           ))
 
-      pub target_compared : (match_conclusion s goal_bytes target_at implication 0 0 c (three_holes a e b)).ok ≡ compared implication 0 0
+      pub target_compared : is_some (match_conclusion s goal_bytes target_at Implication 0 0 c (three_holes a e b)) ≡ compared implication 0 0
           (both (tree_at s a) (holding (tree_at s e))) (tree_at s b) (concluded_at s c)
       unfolding three_holes has_operand
       target_compared =
-          filled_is s goal_bytes target_at 0 0 implication (both (hole 0) (holding (hole 1))) (hole 2) (three_holes a e b) c
+          filled_is s goal_bytes target_at 0 0 Implication (both (hole 0) (holding (hole 1))) (hole 2) (three_holes a e b) c
           (record { at = refl; left = refl; num = refl }) target_stands
           (λ d h. (
             ap₂ (λ (x y : Tree). both x (holding y)) (h.tree 0 (tree_at s a) refl) (h.tree 1 (tree_at s e) refl),

@@ -11,7 +11,8 @@ use Rattle.image_header.specs.Instruction.{pair_operation}
 use Rattle.image_bodies.specs.RecordPlaces.{instruction_of}
 use Rattle.formula_match.specs.Template.{first_hole}
 use Rattle.formula_match.specs.declared.bind.Bind.{Bind}
-use Rattle.formula_trees.specs.StatementTree.{implication, hoare, paired}
+use Rattle.rules_table.specs.declared.rule.Form.{Form}
+use Rattle.rules_table.specs.declared.rule.Form.TheVariants.{Implication, Triple, Pair}
 use Rattle.image_meaning.specs.Program.{outline_number}
 use Rattle.image_access.specs.AccessPlaces.{formula_at}
 use Rattle.image_access.specs.declared.claim.Claimed.{Claimed}
@@ -73,14 +74,14 @@ next_point k = cond (ltb k points) (k + 1) k
 
 -- the goal of an implication
 abbrev pub implied : ℕ → Bind → Goal
-implied i b = record { form = implication; thread = 0; point = 0; template = i; bind = b }
+implied i b = record { form = Implication; thread = 0; point = 0; template = i; bind = b }
 
 -- the form of a line about an instruction: a triple, for a pair a triple of the whole pair
-unfoldable pub acting_form : ℕ → ℕ
-acting_form op = cond (pair_operation op) paired hoare
+unfoldable pub acting_form : ℕ → Form
+acting_form op = cond (pair_operation op) Pair Triple
 
 -- the goal of a triple, of the form f, at point k of t
-abbrev pub kept : ℕ → ℕ → ℕ → ℕ → Bind → Goal
+abbrev pub kept : Form → ℕ → ℕ → ℕ → Bind → Goal
 kept f t k i b = record { form = f; thread = t; point = k; template = i; bind = b }
 
 module _ (s : List ℕ) (z : Sizes) where

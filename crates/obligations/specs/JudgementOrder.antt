@@ -7,8 +7,7 @@ use Rattle.image_frames.specs.Records.{bodies}
 use Rattle.image_header.specs.declared.sizes.Sizes.{Sizes}
 use Rattle.image_meaning.specs.Program.{program_of}
 use Rattle.rules_justified.specs.declared.marks.Marks.{Marks}
-use Rattle.obligations.specs.declared.judgement.Judgement.{Judgement}
-use Rattle.obligations.specs.Judgement.{judged}
+use Rattle.obligations.specs.Judgement.{Judgement, judged}
 
 -- the program of the image
 abbrev pub program : List ℕ → Sizes → Program

@@ -1,4 +1,5 @@
 pub mod Goal
+pub mod Unmet
 pub mod Concludes
 pub mod Claims
 pub mod Judgement

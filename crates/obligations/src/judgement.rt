@@ -1,89 +1,51 @@
 // The judgement on obligations, taken one by one.
-ghost use Rattle.std.specs.Prelude.{◌≡◌};
-ghost use Rattle.image_frames.specs.Records.{bodies};
-ghost use Rattle.image_index.specs.IndexTable.{index_of};
-ghost use Rattle.image_access.specs.Totals.{totals_of};
-ghost use Rattle.rules_justified.specs.Marks.{as_marks};
-ghost use Rattle.obligations.specs.Judgement.{judge_one, next};
+#![tactic(auto, using(crate::proofs::JudgementBranches::judgement_branches))]
 
+ghost use Rattle.std.specs.Prelude.{◌≡◌};
+ghost use Rattle.rules_justified.specs.Marks.{as_marks};
+ghost use Rattle.obligations.specs.Judgement.{judge_one};
+
+use crate::certificate::Certificate;
 use crate::concludes::{Unmet, code_at};
 use image_access::named_line::named_line;
-use image_access::totals::Totals;
-use image_header::sizes::Sizes;
 use verdict_record::obligation::Obligation;
 
-// How many obligations are met; or the first that is not, its code and line, and how many are met before it.
+// The first obligation that is not met: why not, the line that it names, and how many are met before it.
 #[derive(Clone, Copy)]
-pub enum Judgement {
-    Met(usize),
-    Failed {
-        what: Obligation,
-        code: u8,
-        line: usize,
-        count: usize,
-    },
+pub struct Failure {
+    pub what: Obligation,
+    pub unmet: Unmet,
+    pub line: usize,
+    pub count: usize,
 }
 
-// Judges the obligation with number `count`, from 0. If there is no such number, which no well-formed image has, the obligation counts as
-// unmet; this bounds the count without a precondition.
-fn judge_one<'a, 'b, 'c>(
-    image: &'a [u8],
-    index: &'b [usize],
-    sizes: Sizes,
-    totals: Totals,
-    marks: &'c [bool],
+// Judges the obligation with number `count`, from 0, and returns how many are met with it. If there is no such number, which no well-formed
+// image has, the obligation counts as unmet; this bounds the count without a precondition.
+pub fn judge_one(
+    certificate: &Certificate,
     obligation: Obligation,
     count: usize,
-) -> Judgement
-    requires { (index.now ≡ index_of image.now) × (totals ≡ totals_of sizes (bodies image.now)) }
-    ensures { result ≡ judge_one image.now sizes (as_marks marks.now) obligation count }
+) -> Result<usize, Failure>
+    ensures { result ≡ judge_one certificate.now.records.now.image.now certificate.now.records.now.sizes
+        (as_marks certificate.now.marks.now) obligation count }
 {
-    if totals.obligations <= count {
-        return Judgement::Failed {
+    let records = certificate.records;
+    if records.totals.obligations <= count {
+        return Err(Failure {
             what: obligation,
-            code: Unmet::NO_LINE,
+            unmet: Unmet::NoLine,
             line: 0,
-            count: count,
-        };
+            count,
+        });
     }
-    let number = named_line(image, index, sizes, totals, count);
-    let e = code_at(image, index, sizes, totals, marks, obligation, number);
-    if e == Unmet::NONE {
-        return Judgement::Met(count + 1);
-    }
-    Judgement::Failed {
-        what: obligation,
-        code: e,
-        line: number,
-        count: count,
-    }
-}
-
-// Judges one obligation more; once an obligation is not met, the judgement stays.
-pub fn judge_next<'a, 'b, 'c>(
-    image: &'a [u8],
-    index: &'b [usize],
-    sizes: Sizes,
-    totals: Totals,
-    marks: &'c [bool],
-    obligation: Obligation,
-    judgement: Judgement,
-) -> Judgement
-    requires { (index.now ≡ index_of image.now) × (totals ≡ totals_of sizes (bodies image.now)) }
-    ensures { result ≡ next image.now sizes (as_marks marks.now) obligation judgement }
-{
-    match judgement {
-        Judgement::Met(c) => judge_one(image, index, sizes, totals, marks, obligation, c),
-        Judgement::Failed {
-            what,
-            code,
+    let line = named_line(records, count);
+    match code_at(certificate, obligation, line) {
+        Ok(()) => Ok(count + 1),
+        Err(unmet) => Err(Failure {
+            what: obligation,
+            unmet,
             line,
             count,
-        } => Judgement::Failed {
-            what,
-            code,
-            line,
-            count,
-        },
+        }),
     }
 }

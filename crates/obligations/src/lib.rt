@@ -1,6 +1,9 @@
 // The obligations and claims of a well-formed image, each judged against the line that it names.
 #![tactic(auto)]
 
+// The image, counted, and the marks of its lines, as one value.
+pub mod certificate;
+
 // What an obligation or a claim wants of a line: its goal, a template with every hole filled.
 pub mod goal;
 

@@ -1,124 +1,77 @@
-// The obligations of classes 1 to 3: starts, then steps and branches taken, by thread and point. Every function takes the
-// judgement so far and returns the one after its obligations.
-ghost use Rattle.std.specs.Prelude.{◌≡◌};
+// The obligations of classes 1 to 3: starts, then steps and branches taken, by thread and point. Every function takes how many
+// obligations are met so far, and returns how many are met with its own, or the first that is not.
+ghost use Rattle.std.specs.Prelude.{◌≡◌, Ok};
 ghost use Rattle.image_frames.specs.Records.{bodies};
-ghost use Rattle.image_index.specs.IndexTable.{index_of};
-ghost use Rattle.image_access.specs.Totals.{totals_of};
 ghost use Rattle.image_header.specs.Thread.{last_point};
 ghost use Rattle.image_bodies.specs.RecordPlaces.{thread_body};
 ghost use Rattle.rules_justified.specs.Marks.{as_marks};
 ghost use Rattle.obligations.specs.JudgementOrder.{starts_to, own_at, own_to, steps_to};
 
-use crate::judgement::{Judgement, judge_next};
+use crate::certificate::Certificate;
+use crate::judgement::{Failure, judge_one};
 use image_access::outline_point::last_point_of;
-use image_access::totals::Totals;
 use image_bodies::instruction_at::instruction_of;
 use image_header::instruction::Instruction;
-use image_header::sizes::Sizes;
 use verdict_record::obligation::Obligation;
 
 // Judges the obligations of class 1: start gives each thread's point 0.
-pub fn judge_starts<'a, 'b, 'c>(
-    image: &'a [u8],
-    index: &'b [usize],
-    sizes: Sizes,
-    totals: Totals,
-    marks: &'c [bool],
-    judgement: Judgement,
-) -> Judgement
-    requires { (index.now ≡ index_of image.now) × (totals ≡ totals_of sizes (bodies image.now)) }
-    ensures { result ≡ starts_to image.now sizes (as_marks marks.now) sizes.threads judgement }
+#[tactic(auto, using(crate::proofs::GroupBranches::starts_loop))]
+pub fn judge_starts(certificate: &Certificate, before: usize) -> Result<usize, Failure>
+    ensures { result ≡ starts_to certificate.now.records.now.image.now certificate.now.records.now.sizes
+        (as_marks certificate.now.marks.now) certificate.now.records.now.sizes.threads (Ok before) }
 {
-    let threads = sizes.threads as usize;
-    let mut q = judgement;
-    let mut t: usize = 0;
-    while t < threads {
-        t += 1;
-        q = judge_next(
-            image,
-            index,
-            sizes,
-            totals,
-            marks,
-            Obligation::Start { thread: t },
-            q,
-        );
+    let mut count = before;
+    for t in 1..=usize::from(certificate.records.sizes.threads) {
+        count = judge_one(certificate, Obligation::Start { thread: t }, count)?;
     }
-    q
+    Ok(count)
 }
 
 // Judges the obligations of one instruction: it leads to the next point; a branch first leads to its target.
-fn judge_own<'a, 'b, 'c>(
-    image: &'a [u8],
-    index: &'b [usize],
-    sizes: Sizes,
-    totals: Totals,
-    marks: &'c [bool],
+#[tactic(auto, using(crate::proofs::GroupBranches::instructions))]
+fn judge_own(
+    certificate: &Certificate,
     t: usize,
     point: usize,
-    judgement: Judgement,
-) -> Judgement
-    requires { (index.now ≡ index_of image.now) × (totals ≡ totals_of sizes (bodies image.now)) }
-    ensures { result ≡ own_at image.now sizes (as_marks marks.now) t point judgement }
+    before: usize,
+) -> Result<usize, Failure>
+    ensures { result ≡ own_at certificate.now.records.now.image.now certificate.now.records.now.sizes
+        (as_marks certificate.now.marks.now) t point (Ok before) }
 {
-    let step = Obligation::Step {
-        thread: t,
-        point: point,
-    };
-    let instruction = instruction_of(image, index, sizes, t, point);
+    let records = certificate.records;
+    let step = Obligation::Step { thread: t, point };
+    let instruction = instruction_of(records.image, records.sizes, t, point);
     if instruction.operation == Instruction::BRANCH {
-        let taken = Obligation::Taken {
-            thread: t,
-            point: point,
-        };
-        let q = judge_next(image, index, sizes, totals, marks, taken, judgement);
-        return judge_next(image, index, sizes, totals, marks, step, q);
+        let count = judge_one(certificate, Obligation::Taken { thread: t, point }, before)?;
+        return judge_one(certificate, step, count);
     }
-    judge_next(image, index, sizes, totals, marks, step, judgement)
+    judge_one(certificate, step, before)
 }
 
 // Judges the obligations of the instructions of thread `t`.
-fn judge_thread<'a, 'b, 'c>(
-    image: &'a [u8],
-    index: &'b [usize],
-    sizes: Sizes,
-    totals: Totals,
-    marks: &'c [bool],
-    t: usize,
-    judgement: Judgement,
-) -> Judgement
-    requires { (index.now ≡ index_of image.now) × (totals ≡ totals_of sizes (bodies image.now)) }
-    ensures { result ≡ own_to image.now sizes (as_marks marks.now) t
-        (last_point (thread_body sizes (bodies image.now) t)) judgement }
+#[tactic(auto, using(crate::proofs::GroupBranches::own_loop))]
+fn judge_thread(certificate: &Certificate, t: usize, before: usize) -> Result<usize, Failure>
+    ensures { result ≡ own_to certificate.now.records.now.image.now certificate.now.records.now.sizes
+        (as_marks certificate.now.marks.now)
+        t (last_point (thread_body certificate.now.records.now.sizes (bodies certificate.now.records.now.image.now) t)) (Ok before) }
 {
-    let last = last_point_of(image, index, sizes, t);
-    let mut q = judgement;
-    let mut k: usize = 0;
-    while k < last {
-        q = judge_own(image, index, sizes, totals, marks, t, k, q);
-        k += 1;
+    let last = last_point_of(certificate.records.image, certificate.records.sizes, t);
+    let mut count = before;
+    for k in 0..last {
+        count = judge_own(certificate, t, k, count)?;
     }
-    q
+    Ok(count)
 }
 
 // Judges the obligations of classes 2 and 3, of all threads.
-pub fn judge_steps<'a, 'b, 'c>(
-    image: &'a [u8],
-    index: &'b [usize],
-    sizes: Sizes,
-    totals: Totals,
-    marks: &'c [bool],
-    judgement: Judgement,
-) -> Judgement
-    requires { (index.now ≡ index_of image.now) × (totals ≡ totals_of sizes (bodies image.now)) }
-    ensures { result ≡ steps_to image.now sizes (as_marks marks.now) sizes.threads judgement }
+#[tactic(auto, using(crate::proofs::GroupBranches::steps_loop))]
+pub fn judge_steps(certificate: &Certificate, before: usize) -> Result<usize, Failure>
+    ensures { result ≡ steps_to certificate.now.records.now.image.now certificate.now.records.now.sizes
+        (as_marks certificate.now.marks.now) certificate.now.records.now.sizes.threads (Ok before) }
 {
-    let threads = sizes.threads as usize;
-    let mut q = judgement;
-    let mut t: usize = 0;
-    while t < threads {
-        t += 1;
-        q = judge_thread(image, index, sizes, totals, marks, t, q);
+    let mut count = before;
+    for t in 1..=usize::from(certificate.records.sizes.threads) {
+        count = judge_thread(certificate, t, count)?;
     }
-    q
+    Ok(count)
 }

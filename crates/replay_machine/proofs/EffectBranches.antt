@@ -3,7 +3,7 @@ use Prim.Native.Nat.{ℕ, ◌-◌, ◌%◌, ◌≤◌, ◌<◌}
 use mathlib.Core.Path.{◌≡◌, refl}
 use mathlib.Core.Bool.{Bool, true, false, not}
 use mathlib.Core.List.{List}
-use lib.Dec.{leb}
+use lib.Dec.{leb, ltb}
 use lib.ListN.{get_or}
 use borrow.Author.Tests.{lt-ltb, le-ltb}
 use Rattle.logic.specs.Opcode as Opcode
@@ -41,38 +41,11 @@ module _ (g : MemoryShape) (t k p : ℕ) where
   unfolding reachable_by
   reach_there n q v e d f h = rw (← e, lt-ltb _ _ h, ← d, ← f)
 
-  pub reach_past : (n : ℕ) → n ≡ get_or g.sizes (k % 8) 0 → n ≤ p → false ≡ reachable_by g t k p
+  pub reach_past : (n : ℕ) → n ≡ get_or g.sizes (k % 8) 0 → n ≤ p → ltb p n ≡ reachable_by g t k p
   unfolding reachable_by
-  reach_past n e h = rw (← e, le-ltb _ _ h)
+  reach_past n e h = let q : ltb p n ≡ false = le-ltb _ _ h in rw (← e, q)
 
-  module _ (l : List ℕ) where
-    -- the writes do not count
-    reach_is : reachable_by g t k p ≡ reachable (memory_of g l) t k p
-    unfolding reachable memory_of
-    reach_is = refl
-
-    module _ (b : Bool) (e : b ≡ reachable_by g t k p) where
-      pub uncovered_there : (w : Write) → b ≡ true → w ≡ write_at (memory_of g l) k p → not w.covered ≡ uncovered (memory_of g l) t k p
-      unfolding uncovered
-      uncovered_there w h d = rw (← reach_is, ← e, h, ← d)
-
-      pub uncovered_not : b ≡ false → false ≡ uncovered (memory_of g l) t k p
-      unfolding uncovered
-      uncovered_not h = rw (← reach_is, ← e, h)
-
--- what a load picks
-module _ (g : MemoryShape) (l : List ℕ) (t p : ℕ) (d : Effect) (b : Bool) (e : b ≡ reachable_by g t d.word p) where
-  pub picks_load : d.operation ≡ Opcode.load → b ≡ may_pick (memory_of g l) d t p
-  unfolding may_pick
-  picks_load h = rw (h, ← reach_is g t d.word p l) e
-
-  pub picks_acquire : d.operation ≡ Opcode.acquire → b ≡ may_pick (memory_of g l) d t p
-  unfolding may_pick
-  picks_acquire h = rw (h, ← reach_is g t d.word p l) e
-
-pub ruleset may_pick_branches = (picks_load, picks_acquire)
-
-pub add_made : (g r : MemoryShape) (l n : List ℕ) (R t p c : ℕ) (d : Effect) (w : Write) → w ≡ write_at (memory_of g l) d.word p
+pub add_made : (g r : MemoryShape) (l n : List Write) (R t p c : ℕ) (d : Effect) (w : Write) → w ≡ write_at (memory_of g l) d.word p
     → c ≡ sum_of R w.value d.value → memory_of r n ≡ swapped (memory_of g l) d.word c t p
     → memory_of r n ≡ fetch_added (memory_of g l) R d t p
 unfolding fetch_added
@@ -84,7 +57,5 @@ unfolding with_both
 both_made g h r d e q = rw (← e) q
 
 pub ruleset is_reachable_branches = (reach_there, reach_past)
-
-pub ruleset is_uncovered_branches = (uncovered_there, uncovered_not)
 
 pub ruleset effect_of_branches = (effect_register, effect_word)

@@ -10,7 +10,8 @@ use lib.Dec.{ltb}
 use lib.ListN.{length, get_or, set, take, drop, length-append, length-set, length-take, length-drop, drop_of_length-le, get_or-append, get_or-eq_default}
 use lib.Seq.{get_or-append-add, drop-cons, set_at, take-suc, take_all, take_at, drop_at, drop-drop, length-take-le, ext_get_or, get_or-take}
 use borrow.Author.Tests.{ltb-true, ltb-false}
-use Rattle.verdict_record.proofs.Copies.{copy_more}
+use Rattle.limits.proofs.BranchTests.{tests}
+use Rattle.verdict_record.proofs.Copies.{copy_none, copy_more, copy_all}
 use Rattle.tables_columns.specs.Column.{column}
 use Rattle.tables_columns.proofs.ColumnLists.{column_length, column_get_d}
 use Rattle.replay_memory.specs.Write.{no_write, start_write}
@@ -19,9 +20,8 @@ use Rattle.replay_memory.specs.declared.write.Write.{Write}
 use Rattle.replay_memory.specs.declared.memory.Memory.{Memory}
 use Rattle.replay_machine.specs.Refusal.{total}
 use Rattle.replay_machine.specs.ShownTable.{entries, packed_to, packed}
-use Rattle.replay_machine.specs.Replayed.{room_of}
+use Rattle.replay_machine.specs.Replayed.{Replayed, room_of}
 use Rattle.replay_machine.specs.declared.shown_table.Packed.{Packed}
-use Rattle.replay_machine.specs.declared.replayed.Replayed.{Replayed}
 use Rattle.replay_machine.proofs.ShownTableBranches.{entries_length}
 use Rattle.replay_machine.specs.Answer.{size, answer_of, numbers_of}
 use Rattle.replay_machine.specs.OutputTable.{shown_in, shown_of, shown_by, write_in, put_to, placed, entry_bytes, table_bytes, laid}
@@ -127,9 +127,9 @@ bytes_one : (w : Write) → table_bytes (w ∷ []) ≡ entry_bytes w
 unfolding table_bytes
 bytes_one w = append_none (entry_bytes w)
 
-pub laid_none : (l : List Write) (t : List ℕ) → t ≡ laid (take 0 l) t
+pub laid_none : (t : List ℕ) → t ≡ laid [] t
 unfolding laid table_bytes
-laid_none l t = refl
+laid_none t = refl
 
 -- a table with one entry more
 module _ (l : List Write) (e : ℕ) (t : List ℕ) (d : Write) (inside : e < length l) where
@@ -314,3 +314,11 @@ put_next s n t l w e d = rw (e, d)
 pub put_none : (s : Shown) (t : List Write) → t ≡ put_to s 0 t
 unfolding put_to
 put_none s t = refl
+
+-- what each file of the output needs
+
+pub ruleset shown_ways = (count_held, count_none, shown_made, shown_whole, tests)
+
+pub ruleset copies = (copy_none, copy_more, copy_all, copied, numbers_length, entry_length, tests)
+
+pub ruleset laid_ways = (laid_none, laid_next, laid_all, tests)

@@ -2,7 +2,7 @@
 use Prim.Native.Nat.{ℕ, suc, ◌+◌, ◌≤◌, ◌<◌}
 use mathlib.Core.Path.{◌≡◌, refl, ap, sym, ◌∙◌}
 use mathlib.Core.Bool.{Bool, true, false, cond}
-use mathlib.Core.List.{List}
+use mathlib.Core.List.{List, []}
 use native.Mathlib.Omega.{arith}
 use lib.Dec.{ltb}
 use lib.ListN.{length, get_or, set, take, get_or-eq_default}
@@ -29,9 +29,9 @@ module _ (m : Memory) (words : ℕ) where
   abbrev entry : ℕ → Write
   entry e = get_or (entries m words) e (start_write 0)
 
-  pub pack_begin : (a : List Write) → take 0 a ≡ packed_to m words 0
+  pub pack_begin : [] ≡ packed_to m words 0
   unfolding packed_to
-  pack_begin a = sym (column_none entry)
+  pack_begin = sym (column_none entry)
 
   -- an entry behind the last write is a write of 0
   entry_is : (e : ℕ) → cond (ltb e (total m words)) (get_or m.writes e no_write) (start_write 0) ≡ entry e
@@ -55,10 +55,10 @@ module _ (m : Memory) (words : ℕ) where
   pack_more a e n w f d h l t =
       column_set entry a e 64 w h l t (d ∙ ap (λ (j : ℕ). cond (ltb e j) (get_or m.writes e no_write) (start_write 0)) f ∙ entry_is e)
 
-  pub pack_end : (a : List Write) (e : ℕ) → e ≤ 64 → 64 ≤ e → length a ≡ 64 → take e a ≡ packed_to m words e
+  pub pack_end : (a : List Write) (e : ℕ) → take e a ≡ packed_to m words e → length a ≡ 64 → e ≤ 64 → 64 ≤ e
       → record { writes = a } ≡ packed m words
   unfolding packed packed_to
-  pack_end a e h g l t = rw (← column_whole entry a e 64 h g l t)
+  pack_end a e t l h g = rw (← column_whole entry a e 64 h g l t)
 
 pub ruleset pack_branches = (pack_begin, pack_more, pack_end, repeated)
 

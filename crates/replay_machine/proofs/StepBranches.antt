@@ -6,6 +6,8 @@ use mathlib.Core.List.{List, []}
 use lib.Dec.{eqb, ltb}
 use lib.ListN.{get_or, set}
 use borrow.Author.Tests.{lt-ltb, le-ltb, eq-eqb, ne_eqb}
+use Rattle.std.specs.declared.result.Result.{Result}
+use Rattle.std.specs.declared.result.Result.TheVariants.{Ok, Err}
 use Rattle.limits.specs.Limits.{nesting}
 use Rattle.image_frames.specs.Records.{bodies}
 use Rattle.formula.specs.Tree.{parse_tree}
@@ -20,50 +22,48 @@ use Rattle.replay_memory.specs.declared.memory.Memory.{Memory}
 use Rattle.replay_memory.specs.declared.memory.MemoryShape.{MemoryShape}
 use Rattle.replay_memory.specs.declared.write.Write.{Write}
 use Rattle.replay_machine.specs.Effect.{effect_of}
-use Rattle.replay_machine.specs.Shared.{may_pick, memory_after}
+use Rattle.replay_machine.specs.Shared.{may_pick, memory_after, reachable, uncovered}
 use Rattle.replay_machine.specs.Locals.{registers_after, point_after}
 use Rattle.replay_machine.specs.declared.effect.Effect.{Effect}
 use Rattle.replay_machine.specs.declared.locals.Registers.{Registers}
 use Rattle.replay_machine.specs.State.{point_of, performed, machine_of}
-use Rattle.replay_machine.specs.Refusal.{total, adding, pick_refusal}
+use Rattle.replay_machine.specs.Refusal.{number, code_of, total, adding, pick_refusal}
+use Rattle.replay_machine.specs.Pick.{uncovered_by, may_pick_by, refusal_by}
 use Rattle.replay_machine.specs.Step.{Stepped, value_at, effect_at, last_of, refused, attempted, stepped, taken_of}
 use Rattle.replay_machine.specs.declared.state.Machine.{Machine}
 use Rattle.replay_machine.specs.declared.state.Threads.{Threads}
-use Rattle.replay_machine.specs.declared.step.Taken.{Taken}
+use Rattle.replay_machine.specs.declared.pick.Refusal.{Refusal}
+use Rattle.replay_machine.specs.declared.pick.Refusal.TheVariants.{Declined, Thread, Pick, Room, Unlike, OutOfRange, Unserved}
 
-module _ (g : MemoryShape) (l : List ℕ) (words room t p : ℕ) (d : Effect) (b : Bool) (e : b ≡ may_pick (memory_of g l) d t p) where
-  pub pick_not : b ≡ false → 28 ≡ pick_refusal (memory_of g l) words room d t p
-  unfolding pick_refusal
+module _ (g : MemoryShape) (w : Write) (words room t p : ℕ) (d : Effect) (b : Bool) (e : b ≡ may_pick_by g w d t p) where
+  pub pick_not : b ≡ false → code_of (Err Pick) ≡ refusal_by g w words room d t p
+  unfolding refusal_by
   pick_not h = rw (← e, h)
 
   module _ (a : Bool) (h : b ≡ true) (q : a ≡ adding d.operation) where
-    pub pick_plain : a ≡ false → 0 ≡ pick_refusal (memory_of g l) words room d t p
-    unfolding pick_refusal
+    pub pick_plain : a ≡ false → code_of (Ok tt) ≡ refusal_by g w words room d t p
+    unfolding refusal_by
     pick_plain i = rw (← e, h, ← q, i)
 
     module _ (n : ℕ) (i : a ≡ true) (f : n ≡ first g.sizes words) where
-      total_is : n ≡ total (memory_of g l) words
-      unfolding memory_of
-      total_is = f
+      pub pick_room : n < room → code_of (Ok tt) ≡ refusal_by g w words room d t p
+      unfolding refusal_by
+      pick_room j = rw (← e, h, ← q, i, ← f, lt-ltb _ _ j)
 
-      pub pick_room : n < room → 0 ≡ pick_refusal (memory_of g l) words room d t p
-      unfolding pick_refusal
-      pick_room j = rw (← e, h, ← q, i, ← total_is, lt-ltb _ _ j)
-
-      pub pick_full : room ≤ n → 29 ≡ pick_refusal (memory_of g l) words room d t p
-      unfolding pick_refusal
-      pick_full j = rw (← e, h, ← q, i, ← total_is, le-ltb _ _ j)
+      pub pick_full : room ≤ n → code_of (Err Room) ≡ refusal_by g w words room d t p
+      unfolding refusal_by
+      pick_full j = rw (← e, h, ← q, i, ← f, le-ltb _ _ j)
 
 pub ruleset pick_refusal_branches = (pick_not, pick_plain, pick_room, pick_full)
 
-pub perform_made : (n : Threads) (b c : List ℕ) (R t p k : ℕ) (d : Effect) (old : Write) (g : MemoryShape) (h : Registers)
+pub perform_made : (n : Threads) (b c : List Write) (R t p k : ℕ) (d : Effect) (old : Write) (g : MemoryShape) (h : Registers)
     → old ≡ write_at (memory_of n.shape b) d.word p → k ≡ point_after (get_or n.points (t % 4) 0) d
     → memory_of g c ≡ memory_after (memory_of n.shape b) R d t p → h ≡ registers_after n.registers old.value d
     → machine_of (record { shape = g; registers = h; points = set n.points (t % 4) k }) c ≡ performed (machine_of n b) R d t p
 unfolding performed point_of machine_of
 perform_made n b c R t p k d old g h eo ek em eh = rw (em, eh, eo, ek)
 
-pub machine_made : (h : Threads) (b : List ℕ) (m : Memory) → m ≡ memory_of h.shape b
+pub machine_made : (h : Threads) (b : List Write) (m : Memory) → m ≡ memory_of h.shape b
     → record { memory = m; registers = h.registers; points = h.points } ≡ machine_of h b
 unfolding machine_of
 machine_made h b m e = rw e
@@ -83,7 +83,7 @@ pub last_made : (s : List ℕ) (z : Sizes) (t r : ℕ) (b : List ℕ) → b ≡ 
 unfolding last_of thread_body
 last_made s z t r b e d = rw (← e) d
 
-module _ (n : Threads) (b : List ℕ) where
+module _ (n : Threads) (b : List Write) where
   point_is : (t : ℕ) → get_or n.points (t % 4) 0 ≡ point_of (machine_of n b) t
   unfolding point_of machine_of
   point_is t = refl
@@ -92,42 +92,57 @@ module _ (n : Threads) (b : List ℕ) where
   unfolding machine_of
   registers_are = refl
 
-module _ (s : List ℕ) (z : Sizes) (room : ℕ) (n : Threads) (b : List ℕ) (t p : ℕ) where
-  pub step_none : t ≡ 0 → taken_of (record { code = 27; threads = n }) b ≡ stepped s z room (machine_of n b) t p
+module _ (s : List ℕ) (z : Sizes) (room : ℕ) (n : Threads) (b : List Write) (t p : ℕ) where
+  pub step_none : t ≡ 0 → taken_of (Err Thread) n b ≡ stepped s z room (machine_of n b) t p
   unfolding stepped taken_of
   step_none h = rw (eq-eqb _ _ h)
 
   module _ (a : t ≡ 0 → ⊥) where
-    pub step_absent : z.threads < t → taken_of (record { code = 27; threads = n }) b ≡ stepped s z room (machine_of n b) t p
+    pub step_absent : z.threads < t → taken_of (Err Thread) n b ≡ stepped s z room (machine_of n b) t p
     unfolding stepped taken_of
     step_absent h = rw (ne_eqb _ _ a, lt-ltb _ _ h)
 
     module _ (c : t ≤ z.threads) (u k last : ℕ) (eu : u ≡ t - 1) (ek : k ≡ get_or n.points (u % 4) 0) (el : last ≡ last_of s z t) where
-      pub step_last : last ≤ k → taken_of (record { code = 27; threads = n }) b ≡ stepped s z room (machine_of n b) t p
+      pub step_last : last ≤ k → taken_of (Err Thread) n b ≡ stepped s z room (machine_of n b) t p
       unfolding stepped taken_of
       step_last h = rw (ne_eqb _ _ a, le-ltb _ _ c, ← eu, ← point_is n b u, ← ek, ← el, le-ltb _ _ h)
 
-      pub step_tried : (d : Effect) (r : Taken) (f : List ℕ) → k < last → d ≡ effect_at s z n.registers t k
-          → taken_of r f ≡ attempted z room (machine_of n b) d u p → taken_of r f ≡ stepped s z room (machine_of n b) t p
+      pub step_tried : (d : Effect) (r : Result Threads Refusal) (f : List Write) → k < last → d ≡ effect_at s z n.registers t k
+          → taken_of r n f ≡ attempted z room (machine_of n b) d u p → taken_of r n f ≡ stepped s z room (machine_of n b) t p
       unfolding stepped
       step_tried d r f h ed er =
           let q : d ≡ effect_at s z (machine_of n b).registers t k = ed ∙ ap (λ (x : Registers). effect_at s z x t k) (registers_are n b) in
           rw (ne_eqb _ _ a, le-ltb _ _ c, ← eu, ← point_is n b u, ← ek, ← el, lt-ltb _ _ h, ← q) er
 
-module _ (z : Sizes) (room : ℕ) (n : Threads) (b : List ℕ) (d : Effect) (t p c : ℕ)
-    (e : c ≡ pick_refusal (memory_of n.shape b) z.words room d t p) where
-  refusal_is : c ≡ pick_refusal (machine_of n b).memory z.words room d t p
+pub refused_some : (x : Refusal) → eqb (number x) 0 ≡ false
+refused_some Declined = refl
+refused_some Thread = refl
+refused_some Pick = refl
+refused_some Room = refl
+refused_some Unlike = refl
+refused_some OutOfRange = refl
+refused_some Unserved = refl
+
+-- the picked write is that of the memory
+refusal_same : (g : MemoryShape) (l : List Write) (words room t p : ℕ) (d : Effect)
+    → refusal_by g (write_at (memory_of g l) d.word p) words room d t p ≡ pick_refusal (memory_of g l) words room d t p
+unfolding refusal_by may_pick_by uncovered_by pick_refusal may_pick uncovered reachable memory_of
+refusal_same g l words room t p d = refl
+
+module _ (z : Sizes) (room : ℕ) (n : Threads) (b : List Write) (d : Effect) (t p : ℕ) (w : Write) (c : Result (Unit {0}) Refusal)
+    (ew : w ≡ write_at (memory_of n.shape b) d.word p) (e : code_of c ≡ refusal_by n.shape w z.words room d t p) where
+  refusal_is : code_of c ≡ pick_refusal (machine_of n b).memory z.words room d t p
   unfolding machine_of
-  refusal_is = e
+  refusal_is = e ∙ ap (λ (x : Write). refusal_by n.shape x z.words room d t p) ew ∙ refusal_same n.shape b z.words room t p d
 
-  pub attempt_taken : (r : Threads) (f : List ℕ) → c ≡ 0 → machine_of r f ≡ performed (machine_of n b) z.range d t p
-      → taken_of (record { code = c; threads = r }) f ≡ attempted z room (machine_of n b) d t p
+  pub attempt_taken : (r : Threads) (f : List Write) → c ≡ Ok tt → machine_of r f ≡ performed (machine_of n b) z.range d t p
+      → taken_of (Ok r) n f ≡ attempted z room (machine_of n b) d t p
   unfolding attempted taken_of
-  attempt_taken r f g er = rw (← refusal_is, eq-eqb _ _ g, er, g)
+  attempt_taken r f g er = rw (← refusal_is, g, er)
 
-  pub attempt_refused : (c ≡ 0 → ⊥) → taken_of (record { code = c; threads = n }) b ≡ attempted z room (machine_of n b) d t p
+  pub attempt_refused : (x : Refusal) → c ≡ Err x → taken_of (Err x) n b ≡ attempted z room (machine_of n b) d t p
   unfolding attempted taken_of
-  attempt_refused g = rw (← refusal_is, ne_eqb _ _ g)
+  attempt_refused x g = rw (← refusal_is, g, refused_some x)
 
 pub ruleset attempt_branches = (attempt_taken, attempt_refused)
 

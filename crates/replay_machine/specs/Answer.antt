@@ -1,7 +1,7 @@
 -- The answer of a replay, and the same as numbers.
 use Rattle.std.specs.Prelude.{cond, List, ◌∷◌, ◌++◌, ℕ, ltb, length, get_or, drop}
 use Rattle.tables_columns.specs.Column.{column}
-use Rattle.replay_machine.specs.declared.replayed.Replayed.{Replayed}
+use Rattle.replay_machine.specs.Replayed.{Replayed}
 use Rattle.replay_machine.specs.declared.answer.Answer.{Answer}
 
 -- how many numbers the answer has, besides the code

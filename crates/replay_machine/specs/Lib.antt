@@ -4,6 +4,7 @@ pub mod Locals
 pub mod Shared
 pub mod RegistersStand
 pub mod Refusal
+pub mod Pick
 pub mod State
 pub mod Step
 pub mod Run

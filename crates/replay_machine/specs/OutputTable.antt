@@ -6,8 +6,7 @@ use Rattle.replay_memory.specs.WriteTable.{bit}
 use Rattle.replay_memory.specs.declared.write.Write.{Write}
 use Rattle.replay_memory.specs.declared.memory.Memory.{Memory}
 use Rattle.replay_machine.specs.ShownTable.{entries, packed}
-use Rattle.replay_machine.specs.Replayed.{room_of}
-use Rattle.replay_machine.specs.declared.replayed.Replayed.{Replayed}
+use Rattle.replay_machine.specs.Replayed.{Replayed, room_of}
 use Rattle.replay_machine.specs.Answer.{size, answer_of}
 use Rattle.replay_machine.specs.declared.output.Shown.{Shown}
 

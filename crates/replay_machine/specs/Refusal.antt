@@ -1,10 +1,27 @@
 -- The code of a refused step: "27 thread absent, at its last point, or half a step; 28 pick not permitted; 29 no entry left for a write".
-use Rattle.std.specs.Prelude.{ℕ, Bool, false, not, cond, eqb, ltb, leb}
+use Rattle.std.specs.Prelude.{ℕ, Bool, false, not, cond, eqb, ltb, leb, Result, Ok, Err}
 use Rattle.logic.specs.Opcode as Opcode
 use Rattle.replay_memory.specs.Memory.{first}
 use Rattle.replay_memory.specs.declared.memory.Memory.{Memory}
 use Rattle.replay_machine.specs.Shared.{may_pick}
 use Rattle.replay_machine.specs.declared.effect.Effect.{Effect}
+use Rattle.replay_machine.specs.declared.pick.Refusal.{Refusal}
+use Rattle.replay_machine.specs.declared.pick.Refusal.TheVariants.{Declined, Thread, Pick, Room, Unlike, OutOfRange, Unserved}
+
+-- the number of a refusal
+abbrev pub number : Refusal → ℕ
+number Declined = 24
+number Thread = 27
+number Pick = 28
+number Room = 29
+number Unlike = 32
+number OutOfRange = 33
+number Unserved = 34
+
+-- the code of what is refused; 0 where nothing is
+abbrev pub code_of : Result (Unit {0}) Refusal → ℕ
+code_of (Ok x) = 0
+code_of (Err e) = number e
 
 -- how many writes the first n rows have
 abbrev pub total : Memory → ℕ → ℕ

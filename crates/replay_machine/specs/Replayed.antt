@@ -1,12 +1,24 @@
 -- A replay on numbers, of an accepted image: 29 where the start writes do not fit; else the run over the trace.
-use Rattle.std.specs.Prelude.{ℕ, true, false, cond, List, [], ltb, get_or}
+use Rattle.std.specs.Prelude.{ℕ, Bool, true, false, cond, List, [], ltb, get_or}
 use Rattle.image_frames.specs.Records.{bodies}
 use Rattle.image_header.specs.declared.sizes.Sizes.{Sizes}
 use Rattle.replay_machine.specs.declared.state.Machine.{Machine}
 use Rattle.replay_machine.specs.Start.{started}
-use Rattle.replay_machine.specs.Run.{ran}
-use Rattle.replay_machine.specs.declared.run.Run.{Run}
-use Rattle.replay_machine.specs.declared.replayed.Replayed.{Replayed}
+use Rattle.replay_machine.specs.Refusal.{code_of}
+use Rattle.replay_machine.specs.Run.{Run, ran}
+use Rattle.replay_machine.specs.declared.replayed.Replayed as Code
+
+-- a replay: its code, the steps taken and the state reached; whether the table is written, and how many words have rows there
+pub record Replayed : Type 0 where
+  pub code : ℕ
+  pub steps : ℕ
+  pub held : Bool
+  pub words : ℕ
+  pub machine : Machine
+
+-- a replay as the code has it
+unfoldable pub told : Code.Replayed → Replayed
+told r = record { code = code_of r.ended; steps = r.steps; held = r.held; words = r.words; machine = r.machine }
 
 -- how many entries are used at most, of a table that has `lent`: "entries past the 64th are never used"
 unfoldable pub room_of : ℕ → ℕ

@@ -1,6 +1,7 @@
 -- A state of the machine as the code has it, and a step on it. Threads count from 0 here.
 use Rattle.std.specs.Prelude.{ℕ, ◌%◌, get_or, set, List}
 use Rattle.replay_memory.specs.Memory.{write_at, memory_of}
+use Rattle.replay_memory.specs.declared.write.Write.{Write}
 use Rattle.replay_machine.specs.Shared.{memory_after}
 use Rattle.replay_machine.specs.Locals.{registers_after, point_after}
 use Rattle.replay_machine.specs.declared.effect.Effect.{Effect}
@@ -19,11 +20,11 @@ performed n R d t p = record {
   points = set n.points (t % 4) (point_after (point_of n t) d);
 }
 
--- APART FROM A TABLE OF BYTES
+-- APART FROM THE WRITES
 
--- the state, its writes read from the bytes b
-unfoldable pub machine_of : Threads → List ℕ → Machine
-machine_of h b = record { memory = memory_of h.shape b; registers = h.registers; points = h.points }
+-- the state with the writes l
+unfoldable pub machine_of : Threads → List Write → Machine
+machine_of h l = record { memory = memory_of h.shape l; registers = h.registers; points = h.points }
 
 -- the state without its writes
 unfoldable pub threads_of : Machine → Threads

@@ -1,5 +1,5 @@
 -- One step of a trace on numbers: refused, or taken.
-use Rattle.std.specs.Prelude.{ℕ, ◌-◌, cond, List, eqb, ltb}
+use Rattle.std.specs.Prelude.{ℕ, ◌-◌, cond, List, eqb, ltb, Result, Ok, Err}
 use Rattle.limits.specs.Limits.{nesting}
 use Rattle.image_frames.specs.Records.{bodies}
 use Rattle.formula.specs.Tree.{parse_tree}
@@ -8,23 +8,26 @@ use Rattle.image_header.specs.declared.instruction.Instruction.{Instruction}
 use Rattle.image_header.specs.Thread.{last_point}
 use Rattle.image_bodies.specs.RecordPlaces.{thread_body, instruction_of}
 use Rattle.image_access.specs.AccessPlaces.{formula_at}
+use Rattle.replay_memory.specs.declared.write.Write.{Write}
 use Rattle.replay_machine.specs.Evaluate.{worked_t}
 use Rattle.replay_machine.specs.Effect.{effect_of}
 use Rattle.replay_machine.specs.declared.effect.Effect.{Effect}
 use Rattle.replay_machine.specs.declared.locals.Registers.{Registers}
 use Rattle.replay_machine.specs.State.{point_of, performed, machine_of}
-use Rattle.replay_machine.specs.Refusal.{pick_refusal}
+use Rattle.replay_machine.specs.Refusal.{number, pick_refusal}
 use Rattle.replay_machine.specs.declared.state.Machine.{Machine}
-use Rattle.replay_machine.specs.declared.step.Taken.{Taken}
+use Rattle.replay_machine.specs.declared.state.Threads.{Threads}
+use Rattle.replay_machine.specs.declared.pick.Refusal.{Refusal}
 
 -- the state after a step, and the code: 0 if it was taken, else why it was refused
 pub record Stepped : Type 0 where
   pub code : ℕ
   pub machine : Machine
 
--- the step's result, its writes read from the bytes b
-unfoldable pub taken_of : Taken → List ℕ → Stepped
-taken_of r b = record { code = r.code; machine = machine_of r.threads b }
+-- what the code has of a step from n on: the state reached, or why it was refused; the writes are l
+unfoldable pub taken_of : Result Threads Refusal → Threads → List Write → Stepped
+taken_of (Ok h) n l = record { code = 0; machine = machine_of h l }
+taken_of (Err e) n l = record { code = number e; machine = machine_of n l }
 
 -- a refused step: the state stays
 abbrev pub refused : ℕ → Machine → Stepped

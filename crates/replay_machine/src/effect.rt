@@ -23,23 +23,19 @@ pub struct Effect {
 pub fn before(number: u8) -> u8
     ensures { result ≡ number - 1 }
 {
-    if number == 0 {
-        return 0;
-    }
-    number - 1
+    number.saturating_sub(1)
 }
 
 // The operation has its register in field a: assignments and loads. Others have their word there.
+#[tactic(auto, using(limits::proofs::BranchTests::tests), unfolding(image_access::specs::AccessPlaces::register_first))]
 fn register_first(operation: u8) -> bool
     ensures { result ≡ register_first operation }
 {
-    if operation <= Instruction::ACQUIRE {
-        return true;
-    }
-    operation == Instruction::ASSIGN_TWO
+    operation <= Instruction::ACQUIRE || operation == Instruction::ASSIGN_TWO
 }
 
 // The effect of an instruction; `value` and `note` are the values of its formula and of its second half's.
+#[tactic(auto, using(crate::proofs::EffectBranches::effect_of_branches, limits::proofs::BranchTests::tests))]
 pub fn effect_of(instruction: Instruction, value: u8, note: u8) -> Effect
     ensures { result ≡ effect_of instruction value note }
 {

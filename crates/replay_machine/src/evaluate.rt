@@ -18,16 +18,18 @@ pub struct Worked {
 }
 
 // A node's value from the values of its parts. A register has the value given; a word and a flag have none and count as 0.
+#[tactic(auto, using(limits::proofs::BranchTests::tests), unfolding(crate::specs::Evaluate::worked_here))]
 fn work_here(range: u8, code: u8, operand: u8, registers: &[u8], first: u8, second: u8) -> u8
     ensures { result ≡ worked_here range registers.now code operand first second }
 {
     if code == Code::REG {
-        return nth_byte(registers, operand as usize) as u8;
+        return nth_byte(registers, usize::from(operand)) as u8;
     }
     combine_parts(range, code, operand, first, second)
 }
 
 // The value of the formula at `at`, nested at most `left` deep, and the position after it.
+#[tactic(auto, using(crate::proofs::EvaluateBranches::work_at_branches, limits::proofs::BranchTests::tests))]
 pub fn work_at(image: &[u8], at: usize, left: usize, range: u8, registers: &[u8]) -> Worked
     ensures { result ≡ worked_at range registers.now (parse_tree image.now left at) }
 {

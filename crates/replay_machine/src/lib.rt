@@ -1,4 +1,4 @@
-// The machine of a replay, on numbers: a trace of steps from the start on, until one is refused, and what is shown of the state reached.
+// The machine of a replay: a trace of steps from the start on, until one is refused, and what is shown of the state reached.
 #![tactic(auto)]
 
 // Formulas over registers, worked out at given values.

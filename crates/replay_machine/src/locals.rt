@@ -13,22 +13,20 @@ pub struct Registers {
 }
 
 // The registers with `value` for register `r`; a number that no register has sets none.
+#[tactic(auto, using(limits::proofs::BranchTests::tests), unfolding(crate::specs::Locals::with_register))]
 fn with_register(registers: Registers, r: u8, value: u8) -> Registers
     ensures { result ≡ with_register registers r value }
 {
-    if r == 0 {
+    if r == 0 || 16 < r {
         return registers;
     }
-    if 16 < r {
-        return registers;
-    }
-    let i = (r - 1) as usize;
-    let mut n = registers;
-    n.at[i] = value;
-    n
+    let mut registers = registers;
+    registers.at[usize::from(r - 1)] = value;
+    registers
 }
 
 // The registers after two assignments in one step.
+#[tactic(auto, using(crate::proofs::EffectBranches::both_made, limits::proofs::BranchTests::tests))]
 fn with_both(registers: Registers, effect: Effect) -> Registers
     ensures { result ≡ with_both registers effect }
 {
@@ -36,50 +34,32 @@ fn with_both(registers: Registers, effect: Effect) -> Registers
     with_register(n, effect.register, effect.value)
 }
 
+// Operation numbers are associated constants (docs/DECISIONS.md, "Forms named for a place"), so this is a match on them.
 // The registers after a step; `old` is the value of the write that it picks.
+#[tactic(auto, using(limits::proofs::BranchTests::tests), unfolding(crate::specs::Locals::registers_after))]
 pub fn registers_after(registers: Registers, old: u8, effect: Effect) -> Registers
     ensures { result ≡ registers_after registers old effect }
 {
-    let op = effect.operation;
-    if op == Instruction::ASSIGN {
-        return with_register(registers, effect.register, effect.value);
+    match effect.operation {
+        Instruction::ASSIGN => with_register(registers, effect.register, effect.value),
+        Instruction::LOAD | Instruction::ACQUIRE | Instruction::EXCHANGE | Instruction::FETCH_ADD =>
+            with_register(registers, effect.register, old),
+        Instruction::PAIR_STORE | Instruction::PAIR_RELEASE | Instruction::PAIR_SWAP => {
+            with_register(registers, effect.noted, effect.note)
+        }
+        Instruction::ASSIGN_TWO => with_both(registers, effect),
+        _ => registers,
     }
-    if op == Instruction::LOAD {
-        return with_register(registers, effect.register, old);
-    }
-    if op == Instruction::ACQUIRE {
-        return with_register(registers, effect.register, old);
-    }
-    if op == Instruction::EXCHANGE {
-        return with_register(registers, effect.register, old);
-    }
-    if op == Instruction::FETCH_ADD {
-        return with_register(registers, effect.register, old);
-    }
-    if op == Instruction::PAIR_STORE {
-        return with_register(registers, effect.noted, effect.note);
-    }
-    if op == Instruction::PAIR_RELEASE {
-        return with_register(registers, effect.noted, effect.note);
-    }
-    if op == Instruction::PAIR_SWAP {
-        return with_register(registers, effect.noted, effect.note);
-    }
-    if op == Instruction::ASSIGN_TWO {
-        return with_both(registers, effect);
-    }
-    registers
 }
 
 // The point after a step: the next one, or the target of a branch whose test is true.
+#[tactic(auto, using(limits::proofs::BranchTests::tests), unfolding(crate::specs::Locals::point_after))]
 pub fn point_after(point: u8, effect: Effect) -> u8
     ensures { result ≡ point_after point effect }
 {
-    if effect.operation == Instruction::BRANCH {
-        if effect.value == 1 {
-            return effect.target;
-        }
-        return next(point);
+    if effect.operation == Instruction::BRANCH && effect.value == 1 {
+        effect.target
+    } else {
+        next(point)
     }
-    next(point)
 }

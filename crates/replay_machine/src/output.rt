@@ -1,5 +1,6 @@
 // What a replay shows: the answer, and the writes for the caller's table.
 ghost use Rattle.std.specs.Prelude.{◌≡◌, ◌≤◌, min, length};
+ghost use Rattle.replay_machine.specs.Replayed.{told};
 ghost use Rattle.replay_machine.specs.OutputTable.{shown_of, shown_by};
 
 use crate::answer::{Answer, answer_of};
@@ -8,6 +9,7 @@ use crate::replayed::{Replayed, Table};
 use crate::shown_table::pack;
 use replay_memory::write::Write;
 
+// An array with a count: memory is fixed, with no heap.
 // The answer, and the writes for the table: the first `count` of `writes`.
 #[derive(Clone, Copy)]
 pub struct Shown {
@@ -20,38 +22,29 @@ pub struct Shown {
 fn least(writes: usize, lent: usize) -> usize
     ensures { result ≡ min writes (min lent 64) }
 {
-    if writes <= lent {
-        if writes <= Table::MOST {
-            return writes;
-        }
-        return Table::MOST;
-    }
-    if lent <= Table::MOST {
-        return lent;
-    }
-    Table::MOST
+    writes.min(lent).min(Table::MOST)
 }
 
 // How many writes go to a table of `lent` entries; none where the table stays as it is.
+#[tactic(auto, using(crate::proofs::OutputBranches::shown_ways), unfolding(crate::specs::Replayed::told))]
 fn count_of(replayed: Replayed, lent: usize) -> usize
-    ensures { (result ≡ length (shown_of replayed lent)) × (result ≤ min lent 64) }
+    ensures { (result ≡ length (shown_of (told replayed) lent)) × (result ≤ min lent 64) }
 {
     if replayed.held {
-        let n = replayed.machine;
-        let m = n.memory;
-        return least(total_of(m, replayed.words), lent);
+        let memory = replayed.machine.memory;
+        least(total_of(memory, replayed.words), lent)
+    } else {
+        0
     }
-    0
 }
 
 // What is shown of a replay to a caller whose table has `lent` entries.
+#[tactic(auto, using(crate::proofs::OutputBranches::shown_ways), unfolding(crate::specs::Replayed::told))]
 pub fn shown_by(replayed: Replayed, lent: usize) -> Shown
-    ensures { (result ≡ shown_by replayed lent) × ((result.count ≤ min lent 64) × (length result.writes ≡ 64)) }
+    ensures { (result ≡ shown_by (told replayed) lent) × ((result.count ≤ min lent 64) × (length result.writes ≡ 64)) }
 {
-    let n = replayed.machine;
-    let m = n.memory;
-    let packed = pack(m, replayed.words);
-    let writes = packed.writes;
+    let memory = replayed.machine.memory;
+    let writes = pack(memory, replayed.words).writes;
     Shown {
         answer: answer_of(replayed),
         count: count_of(replayed, lent),

@@ -1,73 +1,96 @@
 // Whether a step may be taken: its position, and room for a write.
 ghost use Rattle.std.specs.Prelude.{◌≡◌, ◌≤◌, ◌*◌};
-ghost use Rattle.replay_memory.specs.Memory.{memory_of};
-ghost use Rattle.replay_machine.specs.Refusal.{total, adding, pick_refusal};
+ghost use Rattle.replay_machine.specs.Refusal.{number, code_of, total, adding};
+ghost use Rattle.replay_machine.specs.Pick.{refusal_by};
 
 use crate::effect::Effect;
 use crate::shared::may_pick;
 use image_header::instruction::Instruction;
 use replay_memory::memory::{Memory, MemoryShape, first_of};
-use replay_memory::write_table::Places;
+use replay_memory::write::Write;
 
-// Codes of refused steps; 0 for one that is taken.
-#[derive(Drop)]
-pub struct Refusal {}
-
-impl Refusal {
-    pub const ACCEPTED: u8 = 0;
-
+// Why a replay ends before its trace does, or is not begun.
+#[derive(Clone, Copy, PartialEq, Eq)]
+pub enum Refusal {
+    // The image is not accepted.
+    Declined,
     // The thread is absent or at its last point, or the trace ends with half a step.
-    pub const THREAD: u8 = 27;
-
+    Thread,
     // The position is not permitted.
-    pub const PICK: u8 = 28;
-
+    Pick,
     // No entry is left for a write.
-    pub const ROOM: u8 = 29;
+    Room,
+    // An image of a handover is not accepted, or the two are unlike.
+    Unlike,
+    // The table of a handover is too short, too long or somewhere out of range.
+    OutOfRange,
+    // A line that the table of a handover names does not serve.
+    Unserved,
+}
+
+impl From<Refusal> for u16 {
+    ghost from_gives = { λ refusal code. code ≡ number refusal };
+
+    // Its number on the page.
+    fn from(refusal: Refusal) -> u16 {
+        match refusal {
+            Refusal::Declined => 24,
+            Refusal::Thread => 27,
+            Refusal::Pick => 28,
+            Refusal::Room => 29,
+            Refusal::Unlike => 32,
+            Refusal::OutOfRange => 33,
+            Refusal::Unserved => 34,
+        }
+    }
+}
+
+// The code of what is refused, 0 where nothing is.
+pub fn code_of(ended: Result<(), Refusal>) -> u16
+    ensures { result ≡ code_of ended }
+{
+    match ended {
+        Ok(()) => 0,
+        Err(refusal) => u16::from(refusal),
+    }
 }
 
 // How many writes the first `words` rows have.
 pub fn total_of(memory: Memory, words: u8) -> usize
     ensures { (result ≡ total memory words) × (result ≤ words * 255) }
 {
-    let sizes = memory.sizes;
-    first_of(&sizes, words)
+    first_of(&memory.sizes, words)
 }
 
 // The operation adds a write.
+#[tactic(auto, using(limits::proofs::BranchTests::tests), unfolding(crate::specs::Refusal::adding))]
 pub fn is_adding(operation: u8) -> bool
     ensures { result ≡ adding operation }
 {
-    if operation <= Instruction::ACQUIRE {
-        return false;
-    }
-    if operation == Instruction::BRANCH {
-        return false;
-    }
-    operation != Instruction::ASSIGN_TWO
+    Instruction::ACQUIRE < operation
+        && operation != Instruction::BRANCH
+        && operation != Instruction::ASSIGN_TWO
 }
 
-// Why thread `t` may not take a step with this effect at `position`; 0 if it may. `room` is how many writes there may be.
+// `effect`, `t` and `position` come from the image and from two bytes of the trace, so a struct of them would be made for a single call.
+// Whether thread `t` may take a step with this effect at `position`, whose write is `picked`. `room` is how many writes there may be.
+#[tactic(auto, using(crate::proofs::StepBranches::pick_refusal_branches, limits::proofs::BranchTests::tests))]
 pub fn pick_refusal(
-    table: &[u8; Places::BYTES],
     shape: MemoryShape,
+    picked: Write,
     words: u8,
     room: usize,
     effect: Effect,
     t: u8,
     position: u8,
-) -> u8
-    ensures { result ≡ pick_refusal (memory_of shape table.now) words room effect t position }
+) -> Result<(), Refusal>
+    ensures { code_of result ≡ refusal_by shape picked words room effect t position }
 {
-    if may_pick(table, shape, effect, t, position) {
-        if is_adding(effect.operation) {
-            let sizes = shape.sizes;
-            if first_of(&sizes, words) < room {
-                return Refusal::ACCEPTED;
-            }
-            return Refusal::ROOM;
-        }
-        return Refusal::ACCEPTED;
+    if !may_pick(shape, picked, effect, t, position) {
+        return Err(Refusal::Pick);
     }
-    Refusal::PICK
+    if is_adding(effect.operation) && room <= first_of(&shape.sizes, words) {
+        return Err(Refusal::Room);
+    }
+    Ok(())
 }

@@ -17,23 +17,19 @@ pub struct Packed {
 fn shown(write: Write, i: usize, n: usize) -> Write
     ensures { result ≡ cond (ltb i n) write (start_write 0) }
 {
-    if i < n {
-        return write;
-    }
-    start_write(0)
+    if i < n { write } else { start_write(0) }
 }
 
 // The table for the first `words` words of the memory.
+#[tactic(auto, using(crate::proofs::ShownTableBranches::pack_branches, limits::proofs::BranchTests::tests))]
 pub fn pack(memory: Memory, words: u8) -> Packed
     ensures { result ≡ packed memory words }
 {
     let total = total_of(memory, words);
     let none = start_write(0);
     let mut writes = [none; 64];
-    let mut e: usize = 0;
-    while e < 64 {
+    for e in 0..64 {
         writes[e] = shown(memory.writes[e], e, total);
-        e += 1;
     }
     Packed { writes }
 }

@@ -1,6 +1,5 @@
 // One step of a trace: refused, or taken.
-ghost use Rattle.std.specs.Prelude.{◌≡◌, length};
-ghost use Rattle.image_index.specs.IndexTable.{index_of};
+ghost use Rattle.std.specs.Prelude.{◌≡◌};
 ghost use Rattle.replay_machine.specs.State.{machine_of};
 ghost use Rattle.replay_machine.specs.Step.{value_at, effect_at, last_of, attempted, stepped, taken_of};
 
@@ -13,61 +12,45 @@ use image_access::formula_position::formula_at;
 use image_bodies::instruction_at::instruction_of;
 use image_header::sizes::Sizes;
 use image_header::thread::last_point;
-use image_index::look_up::body_of;
+use image_index::indexed::Indexed;
+use replay_memory::memory::write_at;
+use replay_memory::write::Write;
 use replay_memory::write_table::Places;
 
-// The state after a step, and the code: 0 if it was taken, else why it was refused; then the state is as before.
-#[derive(Clone, Copy)]
-pub struct Taken {
-    pub code: u8,
-    pub threads: Threads,
-}
-
 // The value of formula `number` at the registers.
-fn value_at<'a, 'b>(
-    image: &'a [u8],
-    index: &'b [usize],
-    sizes: Sizes,
-    registers: Registers,
-    number: usize,
-) -> u8
-    requires { index.now ≡ index_of image.now }
+fn value_at(image: &Indexed, sizes: Sizes, registers: Registers, number: usize) -> u8
     ensures { result ≡ value_at image.now sizes registers number }
 {
-    let g = registers.at;
-    let at = formula_at(image, index, number);
-    work(image, at, sizes.range, &g)
+    work(
+        image.bytes(),
+        formula_at(image, number),
+        sizes.range,
+        &registers.at,
+    )
 }
 
 // The effect of the instruction at `point` of thread `t`, its formulas worked out at the registers before the step.
-pub fn effect_at<'a, 'b>(
-    image: &'a [u8],
-    index: &'b [usize],
-    sizes: Sizes,
-    registers: Registers,
-    t: u8,
-    point: u8,
-) -> Effect
-    requires { index.now ≡ index_of image.now }
+#[tactic(auto, using(crate::proofs::StepBranches::effect_made, limits::proofs::BranchTests::tests))]
+pub fn effect_at(image: &Indexed, sizes: Sizes, registers: Registers, t: u8, point: u8) -> Effect
     ensures { result ≡ effect_at image.now sizes registers t point }
 {
-    let instruction = instruction_of(image, index, sizes, t as usize, point as usize);
-    let half = instruction.second;
-    let value = value_at(image, index, sizes, registers, instruction.formula);
-    let note = value_at(image, index, sizes, registers, half.formula);
+    let instruction = instruction_of(image, sizes, usize::from(t), usize::from(point));
+    let value = value_at(image, sizes, registers, instruction.formula);
+    let note = value_at(image, sizes, registers, instruction.second.formula);
     effect_of(instruction, value, note)
 }
 
 // The last point of thread `t`, counted from 1.
-pub fn last_of<'a, 'b>(image: &'a [u8], index: &'b [usize], sizes: Sizes, t: u8) -> usize
-    requires { index.now ≡ index_of image.now }
+#[tactic(auto, using(crate::proofs::StepBranches::last_made, limits::proofs::BranchTests::tests))]
+pub fn last_of(image: &Indexed, sizes: Sizes, t: u8) -> usize
     ensures { result ≡ last_of image.now sizes t }
 {
-    let body = body_of(image, index, (sizes.formulas as usize) + (t as usize));
-    last_point(body)
+    last_point(image.body_of(usize::from(sizes.formulas) + usize::from(t)))
 }
 
+// `effect`, `t` and `position` come from the image and from two bytes of the trace, so a struct of them would be made for a single call.
 // A step of thread `t`, counted from 0, with this effect at `position`: refused, or taken.
+#[tactic(auto, using(crate::proofs::StepBranches::attempt_branches, limits::proofs::BranchTests::tests))]
 fn attempt(
     sizes: Sizes,
     room: usize,
@@ -75,61 +58,44 @@ fn attempt(
     effect: Effect,
     t: u8,
     position: u8,
-    table: &mut [u8; Places::BYTES],
-) -> Taken
-    requires { length table.old ≡ 792 }
-    ensures table_after { taken_of result table.new ≡ attempted sizes room (machine_of threads table.old) effect t position }
-    ensures table_len { length table.new ≡ 792 }
+    table: &mut [Write; Places::COUNT],
+) -> Result<Threads, Refusal>
+    ensures { taken_of result threads table.new ≡ attempted sizes room (machine_of threads table.old) effect t position }
 {
-    let code = pick_refusal(table, threads.shape, sizes.words, room, effect, t, position);
-    if code == Refusal::ACCEPTED {
-        return Taken {
-            code,
-            threads: perform(threads, sizes.range, effect, t, position, table),
-        };
-    }
-    Taken {
-        code,
-        threads: threads,
-    }
+    let picked = write_at(table, threads.shape, effect.word, position);
+    pick_refusal(
+        threads.shape,
+        picked,
+        sizes.words,
+        room,
+        effect,
+        t,
+        position,
+    )?;
+    Ok(perform(threads, sizes.range, effect, t, position, table))
 }
 
 // A step of thread `t`, counted from 1, at `position`; `room` is how many writes there may be.
-pub fn step<'a, 'b, 'c>(
-    image: &'a [u8],
-    index: &'b [usize],
+#[tactic(auto, using(crate::proofs::StepBranches::step_branches, limits::proofs::BranchTests::tests))]
+pub fn step(
+    image: &Indexed,
     sizes: Sizes,
     room: usize,
     threads: Threads,
     t: u8,
     position: u8,
-    table: &'c mut [u8; Places::BYTES],
-) -> Taken
-    requires { (index.now ≡ index_of image.now) × (length table.old ≡ 792) }
-    ensures table_after { taken_of result table.new ≡ stepped image.now sizes room (machine_of threads table.old) t
-        position }
-    ensures table_len { length table.new ≡ 792 }
+    table: &mut [Write; Places::COUNT],
+) -> Result<Threads, Refusal>
+    ensures { taken_of result threads table.new ≡ stepped image.now sizes room (machine_of threads table.old) t position }
 {
-    if t == 0 {
-        return Taken {
-            code: Refusal::THREAD,
-            threads: threads,
-        };
-    }
-    if sizes.threads < t {
-        return Taken {
-            code: Refusal::THREAD,
-            threads: threads,
-        };
+    if t == 0 || sizes.threads < t {
+        return Err(Refusal::Thread);
     }
     let u = before(t);
     let point = point_of(threads, u);
-    if last_of(image, index, sizes, t) <= (point as usize) {
-        return Taken {
-            code: Refusal::THREAD,
-            threads: threads,
-        };
+    if last_of(image, sizes, t) <= usize::from(point) {
+        return Err(Refusal::Thread);
     }
-    let d = effect_at(image, index, sizes, threads.registers, t, point);
-    attempt(sizes, room, threads, d, u, position, table)
+    let effect = effect_at(image, sizes, threads.registers, t, point);
+    attempt(sizes, room, threads, effect, u, position, table)
 }

@@ -16,47 +16,37 @@ impl Entry {
 }
 
 // Byte `j` of a write's entry.
+#[tactic(auto, using(crate::proofs::OutputBranches::entry_byte_branches, limits::proofs::BranchTests::tests))]
 fn entry_byte(write: Write, j: usize) -> u8
     ensures { result ≡ get_or (entry_bytes write) j 0 }
 {
-    if j == 0 {
-        return write.value;
+    match j {
+        0 => write.value,
+        1 => bit(write.releasing),
+        2 => bit(write.covered),
+        3..Entry::SIZE => write.stored.at[j - 3],
+        _ => 0,
     }
-    if j == 1 {
-        return bit(write.releasing);
-    }
-    if j == 2 {
-        return bit(write.covered);
-    }
-    if j < Entry::SIZE {
-        let v = write.stored;
-        return v.at[j - 3];
-    }
-    0
 }
 
 // Writes an entry to the front of `out`; the bytes after it stay.
+#[tactic(auto, using(crate::proofs::OutputBranches::copies))]
 fn write_entry(write: Write, out: &mut [u8])
     requires { 11 ≤ length out.old }
     ensures { out.new ≡ entry_bytes write ++ drop 11 out.old }
 {
-    let mut j: usize = 0;
-    while j < Entry::SIZE {
+    for j in 0..Entry::SIZE {
         out[j] = entry_byte(write, j);
-        j += 1;
     }
 }
 
 // Writes the shown writes to the table; entries that are not used stay, and so do bytes after the last whole entry.
+#[tactic(auto, using(crate::proofs::OutputBranches::laid_ways))]
 pub fn write_shown(shown: Shown, table: &mut [u8])
     requires { (shown.count * 11 ≤ length table.old) × ((shown.count ≤ 64) × (length shown.writes ≡ 64)) }
     ensures { table.new ≡ laid (take shown.count shown.writes) table.old }
 {
-    let n = shown.count;
-    let mut e: usize = 0;
-    while e < n {
-        let w = shown.writes[e];
-        write_entry(w, &mut table[e * Entry::SIZE..]);
-        e += 1;
+    for e in 0..shown.count {
+        write_entry(shown.writes[e], &mut table[e * Entry::SIZE..]);
     }
 }

@@ -1,10 +1,8 @@
 pub mod ViewBranches
-pub mod TableBytes
-pub mod WriteBranches
+pub mod TablePlaces
 pub mod InsertBranches
 pub mod OrderPlaces
 pub mod SameAsLogic
 pub mod StandsAfterInsert
 pub mod AccessBranches
 pub mod StandsAfterAccess
-pub mod LayoutBranches

@@ -11,7 +11,11 @@ use lib.Dec.{eqb, ltb}
 use lib.ListN.{length, get_or, set}
 use lib.Seq.{get_or-set_same, get_or-set_other}
 use borrow.Author.Tests.{eqb-true, eqb-false, ltb-true, ltb-false}
-use Rattle.replay_memory.specs.Memory.{first, index_of}
+use Rattle.limits.proofs.BranchTests.{tests}
+use Rattle.replay_memory.specs.Write.{no_write, covered_write}
+use Rattle.replay_memory.specs.Memory.{first, index_of, write_at, covering, memory_of}
+use Rattle.replay_memory.specs.declared.write.Write.{Write}
+use Rattle.replay_memory.specs.declared.memory.MemoryShape.{MemoryShape}
 
 -- the ways through the loop that sums up
 module _ (l : List ℕ) where
@@ -34,6 +38,16 @@ pub ruleset first_of_branches = (first_none, first_more, first_all)
 pub index_made : (l : List ℕ) (k p a : ℕ) → a ≡ first l (k % 8) → (a + p) % 72 ≡ index_of l k p
 unfolding index_of
 index_made l k p a e = rw e
+
+pub write_covered : (g : MemoryShape) (l : List Write) (k p i : ℕ) → i ≡ index_of g.sizes k p
+    → memory_of g (set l i (record {
+      value = (get_or l i no_write).value;
+      releasing = (get_or l i no_write).releasing;
+      covered = true;
+      stored = (get_or l i no_write).stored;
+    })) ≡ covering (memory_of g l) k p
+unfolding covering memory_of covered_write write_at
+write_covered g l k p i e = rw e
 
 module _ (l : List ℕ) where
   -- a row ends where later ones begin, or before
@@ -80,3 +94,5 @@ module _ (l : List ℕ) where
         go false e f =
             let n : j ≢ k = eqb-false j k e in
             rw (get_or-set_other l k j v 0 n) (omega (arith, f (omega arith) g))
+
+pub ruleset orders = (first_of_branches, index_made, write_covered, tests)

@@ -3,7 +3,6 @@ use Rattle.std.specs.Prelude.{ℕ, zero, suc, ◌+◌, ◌%◌, List, get_or, se
 use Rattle.replay_memory.specs.Write.{no_view, no_write, covered_write}
 use Rattle.replay_memory.specs.declared.view.View.{View}
 use Rattle.replay_memory.specs.declared.write.Write.{Write}
-use Rattle.replay_memory.specs.WriteTable.{writes_in}
 use Rattle.replay_memory.specs.declared.memory.Memory.{Memory}
 use Rattle.replay_memory.specs.declared.memory.MemoryShape.{MemoryShape}
 
@@ -37,11 +36,11 @@ unfoldable pub covering : Memory → ℕ → ℕ → Memory
 covering m k p =
     record { sizes = m.sizes; writes = set m.writes (index_of m.sizes k p) (covered_write (write_at m k p)); views = m.views }
 
--- SIZES AND VIEWS APART FROM A TABLE OF BYTES
+-- SIZES AND VIEWS APART FROM THE WRITES
 
--- the memory with these sizes and views, its writes read from the bytes b
-unfoldable pub memory_of : MemoryShape → List ℕ → Memory
-memory_of g b = record { sizes = g.sizes; writes = writes_in b; views = g.views }
+-- the memory with these sizes and views, and the writes l
+unfoldable pub memory_of : MemoryShape → List Write → Memory
+memory_of g l = record { sizes = g.sizes; writes = l; views = g.views }
 
 -- the view of thread t
 unfoldable pub seen_by : MemoryShape → ℕ → View

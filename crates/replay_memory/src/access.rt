@@ -1,5 +1,7 @@
 // What loads, stores and swaps do to the memory. Threads (`t`), words (`x`) and positions count from 0.
-ghost use Rattle.std.specs.Prelude.{◌≡◌, true, length};
+#![tactic(auto, using(crate::proofs::AccessBranches::accesses))]
+
+ghost use Rattle.std.specs.Prelude.{◌≡◌, true};
 ghost use Rattle.replay_memory.specs.Memory.{memory_of};
 ghost use Rattle.replay_memory.specs.Access.{read_from, loaded, put, stored, swap_from, swapped};
 
@@ -13,19 +15,16 @@ use crate::write_table::Places;
 pub fn read_view(write: Write, view: View, acquires: bool, x: u8, position: u8) -> View
     ensures { result ≡ read_from write view acquires x position }
 {
-    if acquires {
-        if write.releasing {
-            let u = write.stored;
-            return join(view, u);
-        }
-        return with_position(view, x, position);
+    if acquires && write.releasing {
+        join(view, write.stored)
+    } else {
+        with_position(view, x, position)
     }
-    with_position(view, x, position)
 }
 
 // Thread `t` loads the write at `position` of word `x`: only its view changes.
 pub fn load(
-    table: &[u8; Places::BYTES],
+    table: &[Write; Places::COUNT],
     shape: MemoryShape,
     acquires: bool,
     t: u8,
@@ -42,6 +41,7 @@ pub fn load(
     )
 }
 
+// A word, a value and a place in its row come from an effect and a trace; callees take other two of them: a struct would be taken apart.
 // Inserts a write behind `position` of word `x`, by thread `t` from `view`: the view moves to it, and that view is stored with it.
 fn put(
     shape: MemoryShape,
@@ -51,20 +51,18 @@ fn put(
     t: u8,
     position: u8,
     view: View,
-    table: &mut [u8; Places::BYTES],
+    table: &mut [Write; Places::COUNT],
 ) -> MemoryShape
-    requires { length table.old ≡ 792 }
-    ensures table_after { memory_of result table.new ≡ put (memory_of shape table.old) releasing x value t position view }
-    ensures table_len { length table.new ≡ 792 }
+    ensures { memory_of result table.new ≡ put (memory_of shape table.old) releasing x value t position view }
 {
-    let u = with_position(view, x, next(position));
+    let stored = with_position(view, x, next(position));
     let write = Write {
-        value: value,
+        value,
         releasing,
         covered: false,
-        stored: u,
+        stored,
     };
-    with_view(insert(shape, x, position, write, table), t, u)
+    with_view(insert(shape, x, position, write, table), t, stored)
 }
 
 // Thread `t` stores `value` behind `position` of word `x`, from its own view.
@@ -75,11 +73,9 @@ pub fn store(
     value: u8,
     t: u8,
     position: u8,
-    table: &mut [u8; Places::BYTES],
+    table: &mut [Write; Places::COUNT],
 ) -> MemoryShape
-    requires { length table.old ≡ 792 }
-    ensures table_after { memory_of result table.new ≡ stored (memory_of shape table.old) releasing x value t position }
-    ensures table_len { length table.new ≡ 792 }
+    ensures { memory_of result table.new ≡ stored (memory_of shape table.old) releasing x value t position }
 {
     put(
         shape,
@@ -98,10 +94,10 @@ pub fn swap_view(write: Write, view: View) -> View
     ensures { result ≡ swap_from write view }
 {
     if write.releasing {
-        let u = write.stored;
-        return join(view, u);
+        join(view, write.stored)
+    } else {
+        view
     }
-    view
 }
 
 // Thread `t` swaps `value` into word `x`: a releasing store that also covers the picked write.
@@ -111,11 +107,9 @@ pub fn swap(
     value: u8,
     t: u8,
     position: u8,
-    table: &mut [u8; Places::BYTES],
+    table: &mut [Write; Places::COUNT],
 ) -> MemoryShape
-    requires { length table.old ≡ 792 }
-    ensures table_after { memory_of result table.new ≡ swapped (memory_of shape table.old) x value t position }
-    ensures table_len { length table.new ≡ 792 }
+    ensures { memory_of result table.new ≡ swapped (memory_of shape table.old) x value t position }
 {
     let write = write_at(table, shape, x, position);
     let view = swap_view(write, view_of(shape, t));

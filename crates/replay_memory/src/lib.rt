@@ -2,7 +2,7 @@
 
 #![tactic(auto)]
 
-// Writes and views: as values, and in a table of bytes.
+// Writes and views, and the table of writes.
 pub mod view;
 pub mod write;
 pub mod write_table;
@@ -10,5 +10,4 @@ pub mod write_table;
 // The memory: what loads, stores and swaps do to it.
 pub mod access;
 pub mod insert;
-pub mod layout;
 pub mod memory;

@@ -26,7 +26,7 @@ use Rattle.replay_machine.specs.Refusal.{adding, pick_refusal}
 use Rattle.replay_machine.specs.Locals.{registers_after}
 use Rattle.replay_machine.specs.declared.effect.Effect.{Effect}
 use Rattle.replay_machine.specs.declared.locals.Registers.{Registers}
-use Rattle.replay_run.specs.Pick.{uncovered_by, may_pick_by, refusal_by}
+use Rattle.replay_machine.specs.Pick.{uncovered_by, may_pick_by, refusal_by}
 use Rattle.replay_run.specs.Shared.{fetch_added_by, change_of}
 use Rattle.replay_run.proofs.TableLies.{Lies, swept_none, cover_off, cover_old, insert_lies, insert_stays, total_after, o_at, o_covers}
 

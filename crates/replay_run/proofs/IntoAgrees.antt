@@ -9,6 +9,8 @@ use lib.Dec.{ltb}
 use lib.ListN.{length, get_or, drop, get_or-append}
 use lib.Seq.{take_all, length-take-le, length_front, get_or-append-add, get_or-drop, ext_get_or}
 use borrow.Author.Tests.{lt-ltb, le-ltb, ltb-true, ltb-false}
+use Rattle.std.specs.declared.option.Option.{Option}
+use Rattle.std.specs.declared.option.Option.TheVariants.{None, Some}
 use Rattle.semantics.specs.Machine.{State, begin}
 use Rattle.limits.specs.Numbers.{nth}
 use Rattle.image_frames.specs.Records.{bodies}
@@ -16,8 +18,6 @@ use Rattle.image_header.specs.declared.sizes.Sizes.{Sizes}
 use Rattle.image_meaning.specs.Program.{program_of}
 use Rattle.image_meaning.proofs.RecordsChecked.{Checks, sound_checks}
 use Rattle.checker_spec.specs.Acceptance.{acceptance}
-use Rattle.checker_spec.specs.declared.acceptance.Acceptance.{Acceptance}
-use Rattle.checker_spec.specs.declared.acceptance.Acceptance.TheVariants.{Granted, Declined}
 use Rattle.checker_spec.proofs.AcceptedHolds.{granted_holds}
 use Rattle.tables_columns.proofs.ColumnLists.{column_get_d}
 use Rattle.replay_memory.specs.Write.{no_write}
@@ -32,9 +32,9 @@ use Rattle.replay_machine.specs.Answer.{answer_of}
 use Rattle.replay_machine.specs.ShownTable.{entries}
 use Rattle.replay_machine.specs.OutputTable.{shown_in, shown_of, placed}
 use Rattle.replay_machine.specs.declared.answer.Answer.{Answer}
-use Rattle.replay_machine.specs.declared.run.Run.{Run}
+use Rattle.replay_machine.specs.Run.{Run}
 use Rattle.replay_machine.specs.declared.state.Machine.{Machine}
-use Rattle.replay_machine.specs.declared.replayed.Replayed.{Replayed}
+use Rattle.replay_machine.specs.Replayed.{Replayed}
 use Rattle.replay_machine.proofs.InstructionEffect.{sizes_few}
 use Rattle.replay_machine.proofs.OutputBranches.{room_least}
 use Rattle.replay_machine.proofs.ShownTableBranches.{entries_length}
@@ -43,9 +43,8 @@ use Rattle.replay_spec.specs.Promise.{Into}
 use Rattle.replay_spec.proofs.StepFollows.{Ready, range_is}
 use Rattle.replay_spec.proofs.StartStands.{begun}
 use Rattle.replay_spec.proofs.ReplayPromised.{promised}
-use Rattle.replay_run.specs.Course.{start_threads, no_sizes, ended_with, opened_on, opened_by, answer_by}
+use Rattle.replay_run.specs.Course.{Course, start_threads, no_sizes, ended_with, opened_on, opened_by, answer_by}
 use Rattle.replay_run.specs.RunIn.{run_to}
-use Rattle.replay_run.specs.declared.course.Course.{Course}
 use Rattle.replay_run.proofs.TableLies.{Lies}
 use Rattle.replay_run.proofs.TurnAgrees.{Holding}
 use Rattle.replay_run.proofs.RunTurns.{run_done}
@@ -93,7 +92,7 @@ shown_whole : (m : Memory) (words lent : ℕ) → first m.sizes words ≤ room_o
 unfolding shown_in
 shown_whole m words lent h = take_all (room_of lent) (entries m words) (omega (arith, entries_length m words))
 
-module _ (s : List ℕ) (z : Sizes) (accepted : acceptance s ≡ Granted z) (trace given : List ℕ) (table : List Write)
+module _ (s : List ℕ) (z : Sizes) (accepted : acceptance s ≡ Some z) (trace given : List ℕ) (table : List Write)
     (fit : z.words ≤ room_of (length table)) (short : length trace ≤ 18446744073709551615) where
   c : Checks z (bodies s)
   c = sound_checks s z (granted_holds s z accepted).sound
@@ -223,12 +222,12 @@ ended_into s trace given table o q e h a f =
 
 -- THE WHOLE RUN, BY THE ACCEPTANCE OF THE IMAGE
 
-opened_declined : (s : List ℕ) (k : ℕ) (given : List ℕ) (lent : ℕ) → acceptance s ≡ Declined
+opened_declined : (s : List ℕ) (k : ℕ) (given : List ℕ) (lent : ℕ) → acceptance s ≡ None
     → opened_by s k given lent ≡ ended_with no_sizes (room_of lent) 24 (start_threads [] 0 [])
 unfolding opened_by
 opened_declined s k given lent e = rw e
 
-opened_granted : (s : List ℕ) (z : Sizes) (k : ℕ) (given : List ℕ) (lent : ℕ) → acceptance s ≡ Granted z
+opened_granted : (s : List ℕ) (z : Sizes) (k : ℕ) (given : List ℕ) (lent : ℕ) → acceptance s ≡ Some z
     → opened_by s k given lent ≡ opened_on s z k given (room_of lent)
 unfolding opened_by
 opened_granted s z k given lent e = rw e
@@ -238,8 +237,8 @@ opened_unfit : (s : List ℕ) (z : Sizes) (k : ℕ) (given : List ℕ) (room : �
 unfolding opened_on
 opened_unfit s z k given room h = rw (lt-ltb room z.words h)
 
-replay_declined : (s trace given : List ℕ) (lent : ℕ) → acceptance s ≡ Declined
-    → replay_of s trace given lent ≡ by_acceptance s trace given (room_of lent) Declined
+replay_declined : (s trace given : List ℕ) (lent : ℕ) → acceptance s ≡ None
+    → replay_of s trace given lent ≡ by_acceptance s trace given (room_of lent) None
 unfolding replay_of
 replay_declined s trace given lent e = rw e
 
@@ -247,7 +246,7 @@ abbrev unfit : List ℕ → Sizes → List ℕ → Replayed
 unfit s z given =
     record { code = 29; steps = 0; held = false; words = z.words; machine = started (get_or (bodies s) 0 []) z.range given }
 
-replay_unfit : (s : List ℕ) (z : Sizes) (trace given : List ℕ) (lent : ℕ) → acceptance s ≡ Granted z → room_of lent < z.words
+replay_unfit : (s : List ℕ) (z : Sizes) (trace given : List ℕ) (lent : ℕ) → acceptance s ≡ Some z → room_of lent < z.words
     → replay_of s trace given lent ≡ unfit s z given
 unfolding replay_of replay_on
 replay_unfit s z trace given lent e h = rw (e, lt-ltb (room_of lent) z.words h)
@@ -268,7 +267,7 @@ module _ (s trace given : List ℕ) (table : List Write) (short : length trace �
   Right o = (answer_by (run_to s trace o.left (table, o)).1 ≡ answer_of (replay_of s trace given lent))
       × ((run_to s trace o.left (table, o)).0 ≡ placed (shown_of (replay_of s trace given lent) lent) table)
 
-  granted_right : (z : Sizes) → acceptance s ≡ Granted z → Right (opened_on s z (length trace) given (room_of lent))
+  granted_right : (z : Sizes) → acceptance s ≡ Some z → Right (opened_on s z (length trace) given (room_of lent))
   granted_right z e = go (ltb (room_of lent) z.words) refl
     where
       go : (b : Bool) → ltb (room_of lent) z.words ≡ b → Right (opened_on s z (length trace) given (room_of lent))
@@ -281,13 +280,13 @@ module _ (s trace given : List ℕ) (table : List Write) (short : length trace �
           (replay_unfit s z trace given lent e h))
       go false q = granted_into s z e trace given table (ltb-false (room_of lent) z.words q) short
 
-  right : (a : Acceptance) → acceptance s ≡ a → Right (opened_by s (length trace) given lent)
-  right Declined e =
+  right : (a : Option Sizes) → acceptance s ≡ a → Right (opened_by s (length trace) given lent)
+  right None e =
       subst Right (sym (opened_declined s (length trace) given lent e))
       (ended_into s trace given table (ended_with no_sizes (room_of lent) 24 (start_threads [] 0 []))
-      (by_acceptance s trace given (room_of lent) Declined) refl refl
+      (by_acceptance s trace given (room_of lent) None) refl refl
       (ended_answer no_sizes (room_of lent) 24 0 [] 0 []) (replay_declined s trace given lent e))
-  right (Granted z) e = subst Right (sym (opened_granted s z (length trace) given lent e)) (granted_right z e)
+  right (Some z) e = subst Right (sym (opened_granted s z (length trace) given lent e)) (granted_right z e)
 
   pub run_into : (o q : Course) (a : Answer) (after : List Write) → o ≡ opened_by s (length trace) given lent
       → (after, q) ≡ run_to s trace o.left (table, o) → a ≡ answer_by q → Into s trace given table a after

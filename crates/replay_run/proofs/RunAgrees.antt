@@ -22,13 +22,14 @@ use Rattle.replay_machine.specs.State.{threads_of}
 use Rattle.replay_machine.specs.Step.{Stepped, stepped}
 use Rattle.replay_machine.specs.Run.{ran}
 use Rattle.replay_machine.specs.declared.state.Machine.{Machine}
-use Rattle.replay_machine.specs.declared.run.Run.{Run}
+use Rattle.replay_machine.specs.Run.{Run}
 use Rattle.replay_spec.proofs.RunFollows.{any_step}
-use Rattle.replay_run.specs.NextTurn.{no_turn, step_turn, next_turn}
+use Rattle.replay_run.specs.NextTurn.{entry_of, step_turn, next_turn}
 use Rattle.replay_run.specs.Turn.{counted, stopped, turn_by}
 use Rattle.replay_run.specs.RunIn.{turned, run_to}
-use Rattle.replay_run.specs.declared.course.Course.{Course}
+use Rattle.replay_run.specs.Course.{Course}
 use Rattle.replay_run.specs.declared.next_turn.NextTurn.{NextTurn}
+use Rattle.replay_run.specs.declared.next_turn.NextTurn.TheVariants.{Refused}
 use Rattle.replay_run.proofs.TableLies.{Lies, swept_none}
 use Rattle.replay_run.proofs.RunTurns.{run_done, run_next}
 use Rattle.replay_run.proofs.TurnAgrees.{Holding, Taken, Goes, step_goes}
@@ -74,11 +75,11 @@ module _ (b : List ℕ) (z : Sizes) (c : Checks z (bodies b)) (room : ℕ) (few 
       = ap (λ (o : ℕ). get_or trace o 0) j ∙ sym (get_or-drop (length trace - a.left) trace 1 0) ∙ ap (λ (k : List ℕ). get_or k 1 0) e in
       rw (ez, le-ltb a.begun z.words eb, le-ltb a.left 2 two, et, ep)
 
-  next_half : (a : Course) → a.sizes ≡ z → z.words ≤ a.begun → a.left < 2 → next_turn b trace a ≡ no_turn
+  next_half : (a : Course) → a.sizes ≡ z → z.words ≤ a.begun → a.left < 2 → next_turn b trace a ≡ Refused
   unfolding next_turn
   next_half a ez eb one = rw (ez, le-ltb a.begun z.words eb, lt-ltb a.left 2 one)
 
-  turn_none : (a : Course) (w : Write) → turn_by a no_turn w ≡ stopped a 27
+  turn_none : (a : Course) (w : Write) → turn_by a Refused w ≡ stopped a 27
   unfolding turn_by
   turn_none a w = refl
 
@@ -125,7 +126,7 @@ module _ (b : List ℕ) (z : Sizes) (c : Checks z (bodies b)) (room : ℕ) (few 
   half t zero l a s n h e _ g _ _ = absurd (omega (arith, g))
   half t (suc f) l a s n h e _ _ _ _ =
       let q : turned b trace l a ≡ stopped a 27
-      = ap (λ (x : NextTurn). turn_by a x (get_or l x.entry (start_write 0))) (next_half a h.sizes h.begun (omega (arith, e)))
+      = ap (λ (x : NextTurn). turn_by a x (get_or l (entry_of x) (start_write 0))) (next_half a h.sizes h.begun (omega (arith, e)))
       ∙ turn_none a (get_or l 0 (start_write 0)) in
       subst (Ended l n (record { code = 27; steps = a.steps; machine = n }))
       (sym (run_stops b trace f 27 l a (λ (y : a.left ≡ 0). omega (arith, e, y)) q)) (ends l a s n 27 h)
@@ -135,7 +136,7 @@ module _ (b : List ℕ) (z : Sizes) (c : Checks z (bodies b)) (room : ℕ) (few 
     y = stepped b z room n t p
 
     abbrev q : Course
-    q = turn_by a (step_turn b z a.threads t p) (get_or l (step_turn b z a.threads t p).entry (start_write 0))
+    q = turn_by a (step_turn b z a.threads t p) (get_or l (entry_of (step_turn b z a.threads t p)) (start_write 0))
 
     abbrev next : State
     next = exec P (instr_at P s t) t p s
@@ -178,7 +179,7 @@ module _ (b : List ℕ) (z : Sizes) (c : Checks z (bodies b)) (room : ℕ) (few 
       x = step_turn b z a.threads t p
 
       same : turned b trace l a ≡ q l a s n h t p
-      same = ap (λ (v : NextTurn). turn_by a v (get_or l v.entry (start_write 0)))
+      same = ap (λ (v : NextTurn). turn_by a v (get_or l (entry_of v) (start_write 0)))
           (next_is a t p rest h.sizes h.begun (omega (arith, e)) (omega (arith, e, i)) d)
 
       some : a.left ≡ 0 → ⊥

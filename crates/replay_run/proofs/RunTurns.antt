@@ -11,11 +11,12 @@ use borrow.Author.Tests.{eq-eqb, ne_eqb}
 use Rattle.replay_memory.specs.Write.{start_write}
 use Rattle.replay_memory.specs.declared.write.Write.{Write}
 use Rattle.replay_table.specs.Sweep.{swept_of}
-use Rattle.replay_run.specs.NextTurn.{next_turn}
+use Rattle.replay_run.specs.NextTurn.{entry_of, next_turn}
 use Rattle.replay_run.specs.Turn.{begun_by, stopped, performed_by, code_by, attempted_by, turn_by}
 use Rattle.replay_run.specs.RunIn.{turn_on, run_to}
-use Rattle.replay_run.specs.declared.course.Course.{Course}
+use Rattle.replay_run.specs.Course.{Course}
 use Rattle.replay_run.specs.declared.next_turn.NextTurn.{NextTurn}
+use Rattle.replay_run.specs.declared.next_turn.NextTurn.TheVariants.{Start, Step, Refused}
 
 -- it has ended, or goes on
 module _ (s trace : List ℕ) where
@@ -30,21 +31,19 @@ module _ (s trace : List ℕ) where
 
   -- a turn, from what was read
   pub turn_made : (l m : List Write) (a c : Course) (v : NextTurn) (p : Write) → v ≡ next_turn s trace a
-      → p ≡ get_or l v.entry (start_write 0) → c ≡ turn_by a v p → m ≡ swept_of c.order l → (m, c) ≡ turn_on s trace (l, a)
+      → p ≡ get_or l (entry_of v) (start_write 0) → c ≡ turn_by a v p → m ≡ swept_of c.order l → (m, c) ≡ turn_on s trace (l, a)
   turn_made l m a c v p ev ep ec em = rw (em, ec, ep, ev)
 
 -- each turn leaves less
 pub turn_less : (a : Course) (x : NextTurn) (w : Write) → a.left ≢ 0 → (turn_by a x w).left < a.left
 unfolding turn_by begun_by attempted_by performed_by stopped
-turn_less a x w h = go (eqb x.kind 0) (eqb x.kind 1) (eqb (code_by a x w) 0)
+turn_less a (Start v) w h = omega arith
+turn_less a Refused w h = omega arith
+turn_less a (Step x) w h = go (eqb (code_by a x w) 0)
   where
-    go : (i j k : Bool)
-        → (cond i (begun_by a x.effect.value) (cond j (cond k (performed_by a x w) (stopped a (code_by a x w)))
-        (stopped a 27))).left < a.left
-    go true j k = omega arith
-    go false true true = omega arith
-    go false true false = omega arith
-    go false false k = omega arith
+    go : (k : Bool) → (cond k (performed_by a x w) (stopped a (code_by a x w))).left < a.left
+    go true = omega arith
+    go false = omega arith
 
 -- y is on the way from z: the turns that are left of the run from z are enough for y
 module _ (s trace : List ℕ) (z : List Write × Course) where
@@ -67,7 +66,7 @@ module _ (s trace : List ℕ) (z : List Write × Course) where
         enough = omega (
           arith,
           ap (λ (u : List Write × Course). u.1.left) e,
-          turn_less y.1 (next_turn s trace y.1) (get_or y.0 (next_turn s trace y.1).entry (start_write 0)) some,
+          turn_less y.1 (next_turn s trace y.1) (get_or y.0 (entry_of (next_turn s trace y.1)) (start_write 0)) some,
         );
         same = ap (run_to s trace t) e ∙ sym (run_next s trace t y some) ∙ d;
       }

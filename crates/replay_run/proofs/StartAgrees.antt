@@ -28,7 +28,7 @@ use Rattle.replay_machine.specs.Start.{start_writes, start_memory}
 use Rattle.replay_run.specs.NextTurn.{next_turn}
 use Rattle.replay_run.specs.Turn.{begun_by, turn_by}
 use Rattle.replay_run.specs.RunIn.{turned, run_to}
-use Rattle.replay_run.specs.declared.course.Course.{Course}
+use Rattle.replay_run.specs.Course.{Course}
 use Rattle.replay_run.proofs.TableLies.{Lies, cover_off}
 use Rattle.replay_run.proofs.RunTurns.{run_next}
 

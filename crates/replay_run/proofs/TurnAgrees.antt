@@ -36,12 +36,14 @@ use Rattle.replay_machine.specs.declared.state.Machine.{Machine}
 use Rattle.replay_machine.specs.declared.state.Threads.{Threads}
 use Rattle.replay_machine.proofs.InstructionEffect.{sizes_few}
 use Rattle.replay_spec.proofs.StepFollows.{Ready, effect_operation}
-use Rattle.replay_run.specs.Pick.{refusal_by}
+use Rattle.replay_machine.specs.Pick.{refusal_by}
 use Rattle.replay_run.specs.Shared.{change_of}
-use Rattle.replay_run.specs.NextTurn.{no_turn, try_turn, step_turn}
+use Rattle.replay_run.specs.NextTurn.{entry_of, try_turn, step_turn}
 use Rattle.replay_run.specs.Turn.{counted, stopped, threads_after, change_by, performed_by, code_by, attempted_by, turn_by}
-use Rattle.replay_run.specs.declared.course.Course.{Course}
+use Rattle.replay_run.specs.Course.{Course}
+use Rattle.replay_run.specs.declared.next_turn.StepTurn.{StepTurn}
 use Rattle.replay_run.specs.declared.next_turn.NextTurn.{NextTurn}
+use Rattle.replay_run.specs.declared.next_turn.NextTurn.TheVariants.{Step, Refused}
 use Rattle.replay_run.proofs.TableLies.{Lies, index_is, picks_in}
 use Rattle.replay_run.proofs.ChangeAgrees.{shape_of, touching, refusal_is, reach_in, picked_in, registers_same, Agrees, change_agrees}
 use Rattle.replay_run.proofs.WordThere.{word_there}
@@ -187,9 +189,9 @@ module _ (b : List ℕ) (z : Sizes) (c : Checks z (bodies b)) (room : ℕ) (few 
       pub stops : (y.code ≡ 0 → ⊥) → q ≡ stopped a y.code
 
     abbrev turns : NextTurn → Course
-    turns x = turn_by a x (get_or l x.entry (start_write 0))
+    turns x = turn_by a x (get_or l (entry_of x) (start_write 0))
 
-    none_goes : Goes (turns no_turn) (refused 27 n)
+    none_goes : Goes (turns Refused) (refused 27 n)
     unfolding turn_by
     none_goes = record { taken = λ e. absurd (omega (arith, e)); stops = λ e. refl }
 
@@ -197,7 +199,7 @@ module _ (b : List ℕ) (z : Sizes) (c : Checks z (bodies b)) (room : ℕ) (few 
       abbrev effect : Effect
       effect = effect_at b z n.registers (suc u) (point_of n u)
 
-      abbrev x : NextTurn
+      abbrev x : StepTurn
       x = try_turn (threads_of n) effect u p
 
       abbrev found : Write
@@ -247,7 +249,7 @@ module _ (b : List ℕ) (z : Sizes) (c : Checks z (bodies b)) (room : ℕ) (few 
           go true e = record { taken = λ _. taken_by (eqb-true code 0 e); stops = λ f. absurd (f refl) }
           go false e = record { taken = λ f. absurd (eqb-false code 0 e f); stops = λ _. refl }
 
-      try_goes : Goes (turns x) (attempted z room n effect u p)
+      try_goes : Goes (turns (Step x)) (attempted z room n effect u p)
       unfolding turn_by try_turn threads_of
       try_goes = attempted_goes
 
@@ -262,7 +264,7 @@ module _ (b : List ℕ) (z : Sizes) (c : Checks z (bodies b)) (room : ℕ) (few 
         its = effect_at b z n.registers (suc u) (point_of n u)
 
         turn : Bool → Bool → NextTurn
-        turn f g = cond f no_turn (cond g (try_turn (threads_of n) its u p) no_turn)
+        turn f g = cond f Refused (cond g (Step (try_turn (threads_of n) its u p)) Refused)
 
         out : Bool → Bool → Stepped
         out f g = cond f (refused 27 n) (cond g (attempted z room n its u p) (refused 27 n))

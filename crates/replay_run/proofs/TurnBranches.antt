@@ -19,53 +19,26 @@ use Rattle.replay_table.specs.Sweep.{no_order, start_order}
 use Rattle.replay_table.specs.Change.{swapped_by}
 use Rattle.replay_table.specs.declared.order.Order.{Order}
 use Rattle.replay_table.specs.declared.access.Change.{Change}
-use Rattle.replay_machine.specs.Shared.{reachable_by}
-use Rattle.replay_machine.specs.Refusal.{adding}
+use Rattle.replay_machine.specs.Refusal.{number, code_of}
 use Rattle.replay_machine.specs.Locals.{registers_after, point_after}
 use Rattle.replay_machine.specs.Step.{effect_at, last_of}
 use Rattle.replay_machine.specs.Start.{start_registers}
 use Rattle.replay_machine.specs.declared.effect.Effect.{Effect}
 use Rattle.replay_machine.specs.declared.locals.Registers.{Registers}
 use Rattle.replay_machine.specs.declared.state.Threads.{Threads}
-use Rattle.replay_run.specs.Pick.{uncovered_by, may_pick_by, refusal_by}
 use Rattle.replay_run.specs.Shared.{fetch_added_by}
-use Rattle.replay_run.specs.Course.{start_threads, opened_on}
-use Rattle.replay_run.specs.NextTurn.{start_turn, no_turn, try_turn, step_turn, next_turn}
+use Rattle.replay_run.specs.Course.{Course, start_threads, opened_on, told}
+use Rattle.replay_run.specs.NextTurn.{try_turn, step_turn, next_turn}
 use Rattle.replay_run.specs.Turn.{counted, begun_by, stopped, threads_after, change_by, performed_by, code_by, attempted_by, turn_by}
-use Rattle.replay_run.specs.declared.course.Course.{Course}
+use Rattle.replay_run.specs.declared.course.Course as Code
+use Rattle.replay_run.specs.declared.next_turn.StepTurn.{StepTurn}
 use Rattle.replay_run.specs.declared.next_turn.NextTurn.{NextTurn}
-
-module _ (g : MemoryShape) (w : Write) (t k p : ℕ) (b : Bool) (e : b ≡ reachable_by g t k p) where
-  pub uncovered_there : b ≡ true → not w.covered ≡ uncovered_by g w t k p
-  unfolding uncovered_by
-  uncovered_there h = rw (← e, h)
-
-  pub uncovered_not : b ≡ false → false ≡ uncovered_by g w t k p
-  unfolding uncovered_by
-  uncovered_not h = rw (← e, h)
-
-pub ruleset is_uncovered_branches = (uncovered_there, uncovered_not)
-
-module _ (g : MemoryShape) (w : Write) (words room t p : ℕ) (d : Effect) (b : Bool) (e : b ≡ may_pick_by g w d t p) where
-  pub pick_not : b ≡ false → 28 ≡ refusal_by g w words room d t p
-  unfolding refusal_by
-  pick_not h = rw (← e, h)
-
-  module _ (a : Bool) (h : b ≡ true) (q : a ≡ adding d.operation) where
-    pub pick_plain : a ≡ false → 0 ≡ refusal_by g w words room d t p
-    unfolding refusal_by
-    pick_plain i = rw (← e, h, ← q, i)
-
-    module _ (n : ℕ) (i : a ≡ true) (f : n ≡ first g.sizes words) where
-      pub pick_room : n < room → 0 ≡ refusal_by g w words room d t p
-      unfolding refusal_by
-      pick_room j = rw (← e, h, ← q, i, ← f, lt-ltb _ _ j)
-
-      pub pick_full : room ≤ n → 29 ≡ refusal_by g w words room d t p
-      unfolding refusal_by
-      pick_full j = rw (← e, h, ← q, i, ← f, le-ltb _ _ j)
-
-pub ruleset pick_refusal_branches = (pick_not, pick_plain, pick_room, pick_full)
+use Rattle.replay_run.specs.declared.next_turn.NextTurn.TheVariants.{Start, Step, Refused}
+use Rattle.replay_machine.proofs.StepBranches.{refused_some}
+use Rattle.replay_machine.specs.declared.pick.Refusal.{Refusal}
+use Rattle.replay_machine.specs.declared.pick.Refusal.TheVariants.{Room}
+use Rattle.std.specs.declared.result.Result.{Result}
+use Rattle.std.specs.declared.result.Result.TheVariants.{Ok, Err}
 
 pub add_made : (g : MemoryShape) (words R t p c : ℕ) (w : Write) (d : Effect) (r : Change) → c ≡ sum_of R w.value d.value
     → r ≡ swapped_by g words w d.word c t p → r ≡ fetch_added_by g words R w d t p
@@ -86,12 +59,12 @@ threads_made b R given v h e d = rw (e, d)
 module _ (s : List ℕ) (z : Sizes) (n : ℕ) (given : List ℕ) (room : ℕ) (b : List ℕ) (h : Threads) (o : Order)
     (eb : b ≡ get_or (bodies s) 0 []) (eh : h ≡ start_threads b z.range given) (eo : o ≡ no_order) where
   pub open_full : room < z.words
-      → record { sizes = z; room = room; code = 29; steps = 0; left = 0; begun = 0; threads = h; order = o } ≡ opened_on s z n given room
+      → told (record { sizes = z; room = room; ended = Err Room; steps = 0; left = 0; begun = 0; threads = h; order = o }) ≡ opened_on s z n given room
   unfolding opened_on
   open_full i = rw (lt-ltb _ _ i, eo, eh, eb)
 
   pub open_there : z.words ≤ room
-      → record { sizes = z; room = room; code = 0; steps = 0; left = z.words + n; begun = 0; threads = h; order = o }
+      → told (record { sizes = z; room = room; ended = Ok tt; steps = 0; left = z.words + n; begun = 0; threads = h; order = o })
       ≡ opened_on s z n given room
   unfolding opened_on
   open_there i = rw (le-ltb _ _ i, eo, eh, eb)
@@ -101,39 +74,40 @@ pub ruleset open_on_branches = (open_full, open_there)
 -- THE NEXT TURN
 
 pub try_made : (h : Threads) (d : Effect) (t p i : ℕ) → i ≡ index_of h.shape.sizes d.word p
-    → record { kind = 1; t = t; position = p; effect = d; entry = i } ≡ try_turn h d t p
+    → record { t = t; position = p; effect = d; entry = i } ≡ try_turn h d t p
 unfolding try_turn
 try_made h d t p i e = rw e
 
 module _ (s : List ℕ) (z : Sizes) (h : Threads) (t p : ℕ) (x : NextTurn) where
-  pub step_none : x ≡ no_turn → t ≡ 0 → x ≡ step_turn s z h t p
+  pub step_none : x ≡ Refused → t ≡ 0 → x ≡ step_turn s z h t p
   unfolding step_turn
   step_none e a = rw (eq-eqb _ _ a) e
 
   module _ (a : t ≡ 0 → ⊥) where
-    pub step_absent : x ≡ no_turn → z.threads < t → x ≡ step_turn s z h t p
+    pub step_absent : x ≡ Refused → z.threads < t → x ≡ step_turn s z h t p
     unfolding step_turn
     step_absent e i = rw (ne_eqb _ _ a, lt-ltb _ _ i) e
 
     module _ (c : t ≤ z.threads) (u k last : ℕ) (eu : u ≡ t - 1) (ek : k ≡ get_or h.points (u % 4) 0) (el : last ≡ last_of s z t) where
-      pub step_last : x ≡ no_turn → last ≤ k → x ≡ step_turn s z h t p
+      pub step_last : x ≡ Refused → last ≤ k → x ≡ step_turn s z h t p
       unfolding step_turn
       step_last e i = rw (ne_eqb _ _ a, le-ltb _ _ c, ← eu, ← ek, ← el, le-ltb _ _ i) e
 
-      pub step_tried : (d : Effect) → k < last → d ≡ effect_at s z h.registers t k → x ≡ try_turn h d u p → x ≡ step_turn s z h t p
+      pub step_tried : (d : Effect) (y : StepTurn) → k < last → d ≡ effect_at s z h.registers t k → y ≡ try_turn h d u p → x ≡ Step y
+          → x ≡ step_turn s z h t p
       unfolding step_turn
-      step_tried d i ed e = rw (ne_eqb _ _ a, le-ltb _ _ c, ← eu, ← ek, ← el, lt-ltb _ _ i, ← ed) e
+      step_tried d y i ed e q = rw (ne_eqb _ _ a, le-ltb _ _ c, ← eu, ← ek, ← el, lt-ltb _ _ i, ← ed) (q ∙ ap Step e)
 
 pub ruleset step_turn_branches = (step_none, step_absent, step_last, step_tried)
 
 module _ (s trace : List ℕ) (c : Course) (x : NextTurn) where
   pub next_start : (b : List ℕ) (v : ℕ) → c.begun < c.sizes.words → b ≡ get_or (bodies s) 0 []
-      → v ≡ nth (start_values b) (c.begun + 1) 0 → x ≡ start_turn v → x ≡ next_turn s trace c
+      → v ≡ nth (start_values b) (c.begun + 1) 0 → x ≡ Start v → x ≡ next_turn s trace c
   unfolding next_turn
   next_start b v h eb ev e = rw (lt-ltb _ _ h, ← eb, ← ev) e
 
   module _ (h : c.sizes.words ≤ c.begun) where
-    pub next_half : c.left < 2 → x ≡ no_turn → x ≡ next_turn s trace c
+    pub next_half : c.left < 2 → x ≡ Refused → x ≡ next_turn s trace c
     unfolding next_turn
     next_half i e = rw (le-ltb _ _ h, lt-ltb _ _ i) e
 
@@ -154,77 +128,62 @@ pub ruleset next_turn_branches = (next_start, next_half, next_here, next_step)
 
 -- THE TURN
 
-pub begin_made : (c : Course) (v n k : ℕ) (o : Order) → n ≡ c.left - 1 → k ≡ next c.begun → o ≡ start_order c.begun v
-    → record {
+pub begin_made : (c : Code.Course) (v n k : ℕ) (o : Order) → n ≡ c.left - 1 → k ≡ next c.begun → o ≡ start_order c.begun v
+    → told (record {
       sizes = c.sizes;
       room = c.room;
-      code = c.code;
+      ended = c.ended;
       steps = c.steps;
       left = n;
       begun = k;
       threads = c.threads;
       order = o;
-    } ≡ begun_by c v
+    }) ≡ begun_by (told c) v
 unfolding begun_by
 begin_made c v n k o en ek eo = rw (en, ek, eo)
 
-pub stop_made : (c : Course) (code : ℕ) (o : Order) → o ≡ no_order
-    → record {
+pub stop_made : (c : Code.Course) (e : Refusal) (o : Order) → o ≡ no_order
+    → told (record {
       sizes = c.sizes;
       room = c.room;
-      code = code;
+      ended = Err e;
       steps = c.steps;
       left = 0;
       begun = c.begun;
       threads = c.threads;
       order = o;
-    } ≡ stopped c code
+    }) ≡ stopped (told c) (number e)
 unfolding stopped
-stop_made c code o e = rw e
+stop_made c e o q = rw q
 
-pub after_made : (h : Threads) (x : NextTurn) (w : Write) (a : Change) (k : ℕ) (r : Registers)
+pub after_made : (h : Threads) (x : StepTurn) (w : Write) (a : Change) (k : ℕ) (r : Registers)
     → k ≡ point_after (get_or h.points (x.t % 4) 0) x.effect → r ≡ registers_after h.registers w.value x.effect
     → record { shape = a.shape; registers = r; points = set h.points (x.t % 4) k } ≡ threads_after h x w a
 unfolding threads_after
 after_made h x w a k r ek er = rw (ek, er)
 
-pub perform_made : (c : Course) (x : NextTurn) (w : Write) (a : Change) (m n : ℕ) (h : Threads) → a ≡ change_by c x w
+pub perform_made : (c : Code.Course) (x : StepTurn) (w : Write) (a : Change) (m n : ℕ) (h : Threads) → a ≡ change_by (told c) x w
     → m ≡ counted c.steps → n ≡ c.left - 2 → h ≡ threads_after c.threads x w a
-    → record {
+    → told (record {
       sizes = c.sizes;
       room = c.room;
-      code = c.code;
+      ended = c.ended;
       steps = m;
       left = n;
       begun = c.begun;
       threads = h;
       order = a.order;
-    } ≡ performed_by c x w
+    }) ≡ performed_by (told c) x w
 unfolding performed_by
 perform_made c x w a m n h ea em en eh = rw (em, en, eh, ea)
 
-module _ (c r : Course) (x : NextTurn) (w : Write) where
-  module _ (n : ℕ) (e : n ≡ code_by c x w) where
-    pub attempt_taken : n ≡ 0 → r ≡ performed_by c x w → r ≡ attempted_by c x w
-    unfolding attempted_by
-    attempt_taken h q = rw (← e, eq-eqb _ _ h) q
+module _ (c r : Course) (x : StepTurn) (w : Write) (q : Result (Unit {0}) Refusal) (e : code_of q ≡ code_by c x w) where
+  pub attempt_taken : q ≡ Ok tt → r ≡ performed_by c x w → r ≡ attempted_by c x w
+  unfolding attempted_by
+  attempt_taken h k = rw (← e, h) k
 
-    pub attempt_refused : (n ≡ 0 → ⊥) → r ≡ stopped c n → r ≡ attempted_by c x w
-    unfolding attempted_by
-    attempt_refused h q = rw (← e, ne_eqb _ _ h) q
-
-  pub turn_start : x.kind ≡ 0 → r ≡ begun_by c x.effect.value → r ≡ turn_by c x w
-  unfolding turn_by
-  turn_start h q = rw (eq-eqb _ _ h) q
-
-  pub turn_step : (x.kind ≡ 0 → ⊥) → x.kind ≡ 1 → r ≡ attempted_by c x w → r ≡ turn_by c x w
-  unfolding turn_by
-  turn_step a h q = rw (ne_eqb _ _ a, eq-eqb _ _ h) q
-
-  pub turn_none : (x.kind ≡ 0 → ⊥) → (x.kind ≡ 1 → ⊥) → r ≡ stopped c 27 → r ≡ turn_by c x w
-  unfolding turn_by
-  turn_none a b q = rw (ne_eqb _ _ a, ne_eqb _ _ b) q
+  pub attempt_refused : (y : Refusal) → q ≡ Err y → r ≡ stopped c (number y) → r ≡ attempted_by c x w
+  unfolding attempted_by
+  attempt_refused y h k = rw (← e, h, refused_some y) k
 
 pub ruleset attempt_branches = (attempt_taken, attempt_refused)
-
-pub ruleset take_turn_branches = (turn_start, turn_step, turn_none)

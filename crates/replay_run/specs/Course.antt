@@ -1,17 +1,42 @@
 -- The state of a run without its writes: at the start, and as an answer.
-use Rattle.std.specs.Prelude.{cond, List, [], ℕ, ◌+◌, ltb, get_or, replicate}
+use Rattle.std.specs.Prelude.{cond, List, [], ℕ, ◌+◌, ltb, get_or, replicate, None, Option, Some}
 use Rattle.image_frames.specs.Records.{bodies}
 use Rattle.image_header.specs.declared.sizes.Sizes.{Sizes}
 use Rattle.checker_spec.specs.Acceptance.{acceptance}
-use Rattle.checker_spec.specs.declared.acceptance.Acceptance.{Acceptance}
-use Rattle.checker_spec.specs.declared.acceptance.Acceptance.TheVariants.{Granted, Declined}
 use Rattle.replay_memory.specs.View.{start_view}
 use Rattle.replay_table.specs.Sweep.{no_order}
 use Rattle.replay_machine.specs.Start.{start_registers}
 use Rattle.replay_machine.specs.Replayed.{room_of}
 use Rattle.replay_machine.specs.declared.answer.Answer.{Answer}
 use Rattle.replay_machine.specs.declared.state.Threads.{Threads}
-use Rattle.replay_run.specs.declared.course.Course.{Course}
+use Rattle.replay_table.specs.declared.order.Order.{Order}
+use Rattle.replay_machine.specs.Refusal.{code_of}
+use Rattle.replay_run.specs.declared.course.Course as Code
+
+-- the state of a run without its writes: the image's counts, how many writes there may be, the run's code, the steps taken, what is left of
+-- start writes and trace, the start writes inserted, the state of the threads, the write that is to be inserted
+pub record Course : Type 0 where
+  pub sizes : Sizes
+  pub room : ℕ
+  pub code : ℕ
+  pub steps : ℕ
+  pub left : ℕ
+  pub begun : ℕ
+  pub threads : Threads
+  pub order : Order
+
+-- the same as the code has it
+abbrev pub told : Code.Course → Course
+told c = record {
+  sizes = c.sizes;
+  room = c.room;
+  code = code_of c.ended;
+  steps = c.steps;
+  left = c.left;
+  begun = c.begun;
+  threads = c.threads;
+  order = c.order;
+}
 
 -- the threads at the start; b: the header's body, R: the range, given: a byte for each register
 unfoldable pub start_threads : List ℕ → ℕ → List ℕ → Threads
@@ -46,9 +71,9 @@ abbrev pub no_sizes : Sizes
 no_sizes = record { threads = 0; words = 0; registers = 0; range = 0; formulas = 0; lines = 0; claims = 0 }
 
 -- the start by the acceptance of the image: 24 where it is not accepted
-abbrev pub by_accepted : List ℕ → ℕ → List ℕ → ℕ → Acceptance → Course
-by_accepted s n given room (Granted z) = opened_on s z n given room
-by_accepted s n given room Declined = ended_with no_sizes room 24 (start_threads [] 0 [])
+abbrev pub by_accepted : List ℕ → ℕ → List ℕ → ℕ → Option Sizes → Course
+by_accepted s n given room (Some z) = opened_on s z n given room
+by_accepted s n given room None = ended_with no_sizes room 24 (start_threads [] 0 [])
 
 -- the start of a run over a trace of n bytes, for a table of `lent` entries
 unfoldable pub opened_by : List ℕ → ℕ → List ℕ → ℕ → Course

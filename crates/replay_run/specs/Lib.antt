@@ -1,4 +1,3 @@
-pub mod Pick
 pub mod Shared
 pub mod Course
 pub mod NextTurn

@@ -6,10 +6,12 @@ use Rattle.replay_table.specs.Sweep.{no_order, start_order}
 use Rattle.replay_table.specs.declared.access.Change.{Change}
 use Rattle.replay_machine.specs.Locals.{registers_after, point_after}
 use Rattle.replay_machine.specs.declared.state.Threads.{Threads}
-use Rattle.replay_run.specs.Pick.{refusal_by}
+use Rattle.replay_machine.specs.Pick.{refusal_by}
 use Rattle.replay_run.specs.Shared.{change_of}
-use Rattle.replay_run.specs.declared.course.Course.{Course}
+use Rattle.replay_run.specs.Course.{Course}
+use Rattle.replay_run.specs.declared.next_turn.StepTurn.{StepTurn}
 use Rattle.replay_run.specs.declared.next_turn.NextTurn.{NextTurn}
+use Rattle.replay_run.specs.declared.next_turn.NextTurn.TheVariants.{Start, Step, Refused}
 
 -- the number after n, as far as 64 bits have one
 unfoldable pub counted : ℕ → ℕ
@@ -42,7 +44,7 @@ stopped c code = record {
 }
 
 -- the threads after the step
-unfoldable pub threads_after : Threads → NextTurn → Write → Change → Threads
+unfoldable pub threads_after : Threads → StepTurn → Write → Change → Threads
 threads_after h x w a = record {
   shape = a.shape;
   registers = registers_after h.registers w.value x.effect;
@@ -50,11 +52,11 @@ threads_after h x w a = record {
 }
 
 -- what the step does to sizes and views, and the write that it inserts
-abbrev pub change_by : Course → NextTurn → Write → Change
+abbrev pub change_by : Course → StepTurn → Write → Change
 change_by c x w = change_of c.threads.shape c.sizes.words c.sizes.range w x.effect x.t x.position
 
 -- the step is taken
-unfoldable pub performed_by : Course → NextTurn → Write → Course
+unfoldable pub performed_by : Course → StepTurn → Write → Course
 performed_by c x w = record {
   sizes = c.sizes;
   room = c.room;
@@ -67,13 +69,15 @@ performed_by c x w = record {
 }
 
 -- why the step is refused; 0 if it is taken
-abbrev pub code_by : Course → NextTurn → Write → ℕ
+abbrev pub code_by : Course → StepTurn → Write → ℕ
 code_by c x w = refusal_by c.threads.shape w c.sizes.words c.room x.effect x.t x.position
 
 -- the step is refused, or taken
-unfoldable pub attempted_by : Course → NextTurn → Write → Course
+unfoldable pub attempted_by : Course → StepTurn → Write → Course
 attempted_by c x w = cond (eqb (code_by c x w) 0) (performed_by c x w) (stopped c (code_by c x w))
 
 -- one turn
 unfoldable pub turn_by : Course → NextTurn → Write → Course
-turn_by c x w = cond (eqb x.kind 0) (begun_by c x.effect.value) (cond (eqb x.kind 1) (attempted_by c x w) (stopped c 27))
+turn_by c (Start v) w = begun_by c v
+turn_by c (Step x) w = attempted_by c x w
+turn_by c Refused w = stopped c 27

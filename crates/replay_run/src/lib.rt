@@ -3,7 +3,6 @@
 #![tactic(auto)]
 
 // One step, from values.
-pub mod pick;
 pub mod shared;
 
 // The turns of a run: the start writes, then the steps of the trace.

@@ -5,6 +5,7 @@ use mathlib.Core.List.{List, [], ◌∷◌, ◌++◌}
 use Prim.Native.Nat.{ℕ, suc, ◌+◌, ◌*◌, ◌≤◌, ◌<◌}
 use lib.Dec.{T}
 use lib.ListN.{length, get_or, take, drop, replicate}
+use Rattle.std.specs.declared.option.Option.TheVariants.{None, Some}
 use Rattle.semantics.specs.Base.{Within}
 use Rattle.semantics.specs.Formula.{Formula, Formula.both_a, Formula.either_a, Formula.holds}
 use Rattle.semantics.specs.Machine.{State, Program, begin, run}
@@ -15,7 +16,6 @@ use Rattle.image_frames.specs.Records.{bodies}
 use Rattle.image_header.specs.declared.sizes.Sizes.{Sizes}
 use Rattle.image_meaning.specs.Program.{program_of, outline_of}
 use Rattle.checker_spec.specs.Acceptance.{acceptance}
-use Rattle.checker_spec.specs.declared.acceptance.Acceptance.TheVariants.{Granted, Declined}
 use Rattle.tables_columns.specs.Column.{column}
 use Rattle.replay_memory.specs.Write.{start_write}
 use Rattle.replay_memory.specs.declared.write.Write.{Write}
@@ -137,13 +137,13 @@ module _ (image trace given : List ℕ) (lent : ℕ) (a : Answer) (shown : List 
   table_defined = p.table
 
   -- "24 as before, first, table untouched, answer all 0"
-  pub not-accepted : acceptance image ≡ Declined → a ≡ record { code = 24; steps = 0; points = replicate 4 0; registers = replicate 16 0 }
+  pub not-accepted : acceptance image ≡ None → a ≡ record { code = 24; steps = 0; points = replicate 4 0; registers = replicate 16 0 }
   not-accepted h = (p.refused h).0
 
-  pub not_accepted_table : acceptance image ≡ Declined → shown ≡ []
+  pub not_accepted_table : acceptance image ≡ None → shown ≡ []
   not_accepted_table h = (p.refused h).1
 
-  module _ (z : Sizes) (granted : acceptance image ≡ Granted z) where
+  module _ (z : Sizes) (granted : acceptance image ≡ Some z) where
     -- "If the start writes don't fit, 29 comes before any step: no entry is written, points and registers are as at the start and the
     -- steps are 0"
     module _ (few : room_of lent < z.words) where
@@ -229,8 +229,8 @@ module _ (image trace given table room : List ℕ) (code : ℕ) (after told : Li
     untouched e = whole_table ∙ ap (λ (l : List Write). table_bytes l ++ drop (length l * 11) table) e ∙ none_laid table
 
     -- 24: the table is untouched
-    pub refused_untouched : acceptance image ≡ Declined → after ≡ table
+    pub refused_untouched : acceptance image ≡ None → after ≡ table
     refused_untouched h = untouched (not_accepted_table image trace given (entries_in table) a shown p.right h)
 
-    pub refused_code : acceptance image ≡ Declined → code ≡ 24
+    pub refused_code : acceptance image ≡ None → code ≡ 24
     refused_code h = code_told ∙ ap (λ (x : Answer). x.code) (not-accepted image trace given (entries_in table) a shown p.right h)

@@ -5,6 +5,7 @@ use Prim.Native.Nat.{ℕ, ◌≤◌}
 use native.Mathlib.Omega.{arith}
 use lib.ListN.{get_or, take}
 use borrow.Author.Tests.{le-ltb}
+use Rattle.std.specs.declared.option.Option.TheVariants.{Some}
 use Rattle.semantics.specs.Machine.{State, run}
 use Rattle.semantics.specs.EveryRun.{Holds, EveryRun}
 use Rattle.semantics.proofs.Starts.{begins}
@@ -18,7 +19,6 @@ use Rattle.image_meaning.proofs.RecordsChecked.{Checks, sound_checks}
 use Rattle.image_meaning.proofs.WellFormedProgram.{range_two}
 use Rattle.checker_spec.specs.Acceptance.{acceptance}
 use Rattle.checker_spec.specs.Promise.{TrueInEveryRun}
-use Rattle.checker_spec.specs.declared.acceptance.Acceptance.TheVariants.{Granted}
 use Rattle.checker_spec.proofs.AcceptedHolds.{granted_holds}
 use Rattle.checker_spec.proofs.AcceptedRuns.{accepted_runs}
 use Rattle.replay_machine.specs.Start.{started}
@@ -34,14 +34,14 @@ same_content : (D E : Image) → read D ≡ read E → D ≡ E
 same_content D E e = cc
 
 -- demand 3, of what the image says
-pub every : (s : List ℕ) (z : Sizes) → acceptance s ≡ Granted z → EveryRun (program_of z (bodies s)) (outline_of z (bodies s))
+pub every : (s : List ℕ) (z : Sizes) → acceptance s ≡ Some z → EveryRun (program_of z (bodies s)) (outline_of z (bodies s))
 every s z e =
     let g = granted_holds s z e in
     let t : TrueInEveryRun s = accepted_runs s g.count g.verdict in
     subst (λ (D : Image). EveryRun D.program D.outline) (same_content t.content (image_of z (bodies s)) (sym t.says ∙ g.says))
     t.holds
 
-pub follows_run : (s : List ℕ) (z : Sizes) (trace given : List ℕ) (room : ℕ) → acceptance s ≡ Granted z → room ≤ 64 → z.words ≤ room
+pub follows_run : (s : List ℕ) (z : Sizes) (trace given : List ℕ) (room : ℕ) → acceptance s ≡ Some z → room ≤ 64 → z.words ≤ room
     → Follows s z trace given room (replay_on s z trace given room)
 unfolding replay_on
 follows_run s z trace given room e few fits =

@@ -9,6 +9,7 @@ use lib.Dec.{T}
 use lib.ListN.{length, get_or, take, drop}
 use lib.Seq.{take_all}
 use borrow.Author.Tests.{lt-ltb, le-ltb}
+use Rattle.std.specs.declared.option.Option.TheVariants.{None, Some}
 use Rattle.semantics.specs.Base.{Within}
 use Rattle.semantics.specs.Machine.{State, Program, Step, Start, run}
 use Rattle.semantics.specs.EveryRun.{Outline}
@@ -21,7 +22,6 @@ use Rattle.image_meaning.specs.Program.{program_of, outline_of}
 use Rattle.image_meaning.proofs.RecordsChecked.{Checks, sound_checks}
 use Rattle.image_meaning.proofs.WellFormedProgram.{range_two}
 use Rattle.checker_spec.specs.Acceptance.{acceptance}
-use Rattle.checker_spec.specs.declared.acceptance.Acceptance.TheVariants.{Granted, Declined}
 use Rattle.checker_spec.proofs.AcceptedHolds.{granted_holds}
 use Rattle.tables_columns.specs.Column.{column}
 use Rattle.replay_memory.specs.Write.{start_write}
@@ -37,7 +37,7 @@ use Rattle.replay_spec.specs.StateStands.{StandsFor}
 use Rattle.replay_machine.specs.Replayed.{room_of, replay_on}
 use Rattle.replay_spec.specs.ReplayNumbers.{replay_of}
 use Rattle.replay_spec.specs.Follows as Replay
-use Rattle.replay_machine.specs.declared.replayed.Replayed.{Replayed}
+use Rattle.replay_machine.specs.Replayed.{Replayed}
 use Rattle.replay_spec.proofs.StepFollows.{Ready, range_is, total_used}
 use Rattle.replay_spec.proofs.RunFollows.{follows}
 use Rattle.replay_spec.proofs.StartStands.{begun}
@@ -79,7 +79,7 @@ table_is P m s st wf few lent room =
         (total_used m s st k (omega arith))
         (table_stands m s st P.words k i h (omega arith) g)
 
-module _ (s : List ℕ) (z : Sizes) (e : acceptance s ≡ Granted z) (trace given : List ℕ) (lent : ℕ) where
+module _ (s : List ℕ) (z : Sizes) (e : acceptance s ≡ Some z) (trace given : List ℕ) (lent : ℕ) where
   abbrev P : Program
   P = program_of z (bodies s)
 
@@ -188,11 +188,11 @@ module _ (s trace given : List ℕ) (lent : ℕ) where
   abbrev all : Replayed
   all = replay_of s trace given lent
 
-  declined_is : acceptance s ≡ Declined → (answer_of all ≡ declined) × (shown_of all lent ≡ [])
+  declined_is : acceptance s ≡ None → (answer_of all ≡ declined) × (shown_of all lent ≡ [])
   unfolding replay_of answer_of shown_of started start_registers start_values_to start_register column
   declined_is d = rw d (refl, refl)
 
-  granted_is : (z : Sizes) → acceptance s ≡ Granted z → all ≡ replay_on s z trace given (room_of lent)
+  granted_is : (z : Sizes) → acceptance s ≡ Some z → all ≡ replay_on s z trace given (room_of lent)
   unfolding replay_of
   granted_is z e = rw e
 
@@ -245,6 +245,8 @@ module _ (s trace given table room : List ℕ) where
     numbers = rw (le-ltb _ _ h) et;
     bytes = rw (le-ltb _ _ h) es;
   }
+
+pub ruleset written_branches = (written_short, written_whole)
 
 pub put_into : (s trace given : List ℕ) (table : List Write) (y : Shown) (a : Answer) (after : List Write)
     → y ≡ shown_by (replay_of s trace given (length table)) (length table)

@@ -18,7 +18,7 @@ use Rattle.replay_machine.specs.Step.{Stepped, refused, stepped}
 use Rattle.replay_machine.specs.Run.{ran}
 use Rattle.replay_spec.specs.MachineReplay.{used, refusal, ReplayResult, replayed, steps_in}
 use Rattle.replay_machine.specs.declared.state.Machine.{Machine}
-use Rattle.replay_machine.specs.declared.run.Run.{Run}
+use Rattle.replay_machine.specs.Run.{Run}
 use Rattle.replay_spec.proofs.StepFollows.{Ready, step_is}
 
 -- a step that is not refused is permitted

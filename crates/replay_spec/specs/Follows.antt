@@ -8,7 +8,7 @@ use Rattle.image_header.specs.declared.sizes.Sizes.{Sizes}
 use Rattle.image_meaning.specs.Program.{program_of, outline_of}
 use Rattle.replay_spec.specs.MachineReplay.{ReplayResult, replayed, steps_in}
 use Rattle.replay_spec.specs.StateStands.{StandsFor}
-use Rattle.replay_machine.specs.declared.replayed.Replayed.{Replayed}
+use Rattle.replay_machine.specs.Replayed.{Replayed}
 
 module _ (s : List ℕ) (z : Sizes) (trace given : List ℕ) (room : ℕ) where
   -- the image's program

@@ -1,5 +1,5 @@
 -- THE PROMISE of a replay, whole, for both entry points.
-use Rattle.std.specs.Prelude.{◌≡◌, true, List, [], ℕ, suc, ◌≤◌, ◌<◌, T, length, get_or, take, replicate}
+use Rattle.std.specs.Prelude.{◌≡◌, true, List, [], ℕ, suc, ◌≤◌, ◌<◌, T, length, get_or, take, replicate, None, Some}
 use Rattle.semantics.specs.Machine.{State, Program, run}
 use Rattle.semantics.specs.EveryRun.{Outline, Holds}
 use Rattle.limits.specs.Numbers.{nth}
@@ -7,7 +7,6 @@ use Rattle.image_frames.specs.Records.{bodies}
 use Rattle.image_header.specs.declared.sizes.Sizes.{Sizes}
 use Rattle.image_meaning.specs.Program.{program_of, outline_of}
 use Rattle.checker_spec.specs.Acceptance.{acceptance}
-use Rattle.checker_spec.specs.declared.acceptance.Acceptance.TheVariants.{Granted, Declined}
 use Rattle.replay_memory.specs.declared.write.Write.{Write}
 use Rattle.replay_spec.specs.MachineReplay.{ReplayResult, steps_in}
 use Rattle.replay_spec.specs.Follows as Replay
@@ -69,9 +68,9 @@ pub record Promise (image trace given : List ℕ) (lent : ℕ) (a : Answer) (sho
   pub answer : a ≡ answer_of (replay_of image trace given lent)
   pub table : shown ≡ shown_of (replay_of image trace given lent) lent
   -- an image that is not accepted; one whose start writes do not fit; one whose start writes fit
-  pub refused : acceptance image ≡ Declined → (a ≡ declined) × (shown ≡ [])
-  pub unfit : (z : Sizes) → acceptance image ≡ Granted z → room_of lent < z.words → Unfit image z trace given (room_of lent) a shown
-  pub replays : (z : Sizes) → acceptance image ≡ Granted z → z.words ≤ room_of lent → Replays image z trace given (room_of lent) a shown
+  pub refused : acceptance image ≡ None → (a ≡ declined) × (shown ≡ [])
+  pub unfit : (z : Sizes) → acceptance image ≡ Some z → room_of lent < z.words → Unfit image z trace given (room_of lent) a shown
+  pub replays : (z : Sizes) → acceptance image ≡ Some z → z.words ≤ room_of lent → Replays image z trace given (room_of lent) a shown
 
 -- what holds for a table of write structs: its contents afterwards
 pub record Into (image trace given : List ℕ) (table : List Write) (a : Answer) (after : List Write) : Type 0 where

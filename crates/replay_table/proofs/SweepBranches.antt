@@ -1,6 +1,6 @@
 -- The ways through the functions on one entry, one law for each; the sweep.
 use mathlib.Core.Path.{◌≡◌, refl, sym, ap, ◌∙◌}
-use Prim.Native.Nat.{ℕ, zero, suc, ◌+◌, ◌-◌, ◌≤◌, ◌<◌}
+use Prim.Native.Nat.{min, ℕ, zero, suc, ◌+◌, ◌-◌, ◌≤◌, ◌<◌}
 use native.Mathlib.Omega.{arith}
 use mathlib.Core.Bool.{Bool, true, false, cond}
 use mathlib.Core.List.{List}
@@ -39,8 +39,8 @@ next_there i at h = go (eqb (at - i) 1) refl
         let q : at - i ≡ 1 → ⊥ = eqb-false (at - i) 1 e in
         sym (ne_eqb at (suc i) (λ (d : at ≡ suc i). q (omega arith)))
 
-pub next_past : (i at : ℕ) → at ≤ i → false ≡ eqb at (suc i)
-next_past i at h = sym (ne_eqb at (suc i) (λ (d : at ≡ suc i). omega arith))
+pub next_past : (i at : ℕ) → at ≤ i → ltb i at ≡ eqb at (suc i)
+next_past i at h = le-ltb i at h ∙ sym (ne_eqb at (suc i) (λ (d : at ≡ suc i). omega arith))
 
 pub ruleset is_next_branches = (next_there, next_past)
 
@@ -108,6 +108,14 @@ visits_few o n = go (ltb o.count n) refl
     go : (b : Bool) → ltb o.count n ≡ b → cond b o.count n ≤ n
     go true e = let h = ltb-true o.count n e in omega arith
     go false e = omega arith
+
+pub visits_least : (o : Order) (n : ℕ) → min o.count n ≡ visits o n
+unfolding visits
+visits_least o n = go (ltb o.count n) refl
+  where
+    go : (b : Bool) → ltb o.count n ≡ b → min o.count n ≡ cond b o.count n
+    go true e = let h = ltb-true o.count n e in omega arith
+    go false e = let h = ltb-false o.count n e in omega arith
 
 -- all entries in use are visited, where they are there
 pub visits_all : (o : Order) (n : ℕ) → o.count ≤ n → visits o n ≡ o.count

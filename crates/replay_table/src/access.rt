@@ -28,6 +28,7 @@ pub fn unchanged(shape: MemoryShape) -> Change
 }
 
 // Thread `t` loads `write`, which is at `position` of word `x`: only its view changes.
+#[tactic(auto, using(crate::proofs::ChangeBranches::load_made, limits::proofs::BranchTests::tests))]
 pub fn load(shape: MemoryShape, write: Write, acquires: bool, t: u8, x: u8, position: u8) -> Change
     ensures { result ≡ loaded_by shape write acquires t x position }
 {
@@ -36,6 +37,7 @@ pub fn load(shape: MemoryShape, write: Write, acquires: bool, t: u8, x: u8, posi
 }
 
 // A new write behind `position` of word `x`, from `view`: the view moves to it, and that view is stored with it.
+#[tactic(auto, using(crate::proofs::ChangeBranches::write_made, limits::proofs::BranchTests::tests))]
 fn new_write(releasing: bool, value: u8, view: View, x: u8, position: u8) -> Write
     ensures { result ≡ new_write releasing value view x position }
 {
@@ -49,6 +51,7 @@ fn new_write(releasing: bool, value: u8, view: View, x: u8, position: u8) -> Wri
 }
 
 // The insertion of a write behind `position` of word `x`; the first `words` words have entries in the table.
+#[tactic(auto, using(crate::proofs::ChangeBranches::order_made, limits::proofs::BranchTests::tests))]
 fn insertion(
     shape: MemoryShape,
     words: u8,
@@ -72,6 +75,7 @@ fn insertion(
 
 // Thread `t` inserts a write behind `position` of word `x`: its view is the one stored with the write, and the other views keep their
 // writes.
+#[tactic(auto, using(crate::proofs::ChangeBranches::grow_made, limits::proofs::BranchTests::tests))]
 fn grow_by(
     shape: MemoryShape,
     words: u8,
@@ -89,7 +93,9 @@ fn grow_by(
     }
 }
 
+// A word, a value and a place in its row come from an effect and a trace; callees take other two of them: a struct would be taken apart.
 // Thread `t` stores `value` behind `position` of word `x`, from its own view.
+#[tactic(auto, using(crate::proofs::ChangeBranches::store_made, limits::proofs::BranchTests::tests))]
 pub fn store(
     shape: MemoryShape,
     words: u8,
@@ -106,6 +112,7 @@ pub fn store(
 }
 
 // Thread `t` swaps `value` into word `x`: a releasing store that also covers the write that it picks.
+#[tactic(auto, using(crate::proofs::ChangeBranches::swap_made, limits::proofs::BranchTests::tests))]
 pub fn swap(
     shape: MemoryShape,
     words: u8,

@@ -38,8 +38,8 @@ pub fn start_order(x: u8, value: u8) -> Order
     ensures { result ≡ start_order x value }
 {
     Order {
-        count: (x as usize) + 1,
-        at: x as usize,
+        count: usize::from(x) + 1,
+        at: usize::from(x),
         word: x,
         behind: 255,
         covers: false,
@@ -55,50 +55,40 @@ pub struct Turn {
 }
 
 // The write after an insertion behind `position` of word `x`: its stored view keeps its writes.
+#[tactic(auto, using(crate::proofs::SweepBranches::raise_write))]
 fn raised(write: Write, x: u8, position: u8) -> Write
     ensures { result ≡ up_write x position write }
 {
-    let v = write.stored;
-    let stored = up_view(v, x, position);
-    Write {
-        value: write.value,
-        releasing: write.releasing,
-        covered: write.covered,
-        stored,
-    }
+    let stored = up_view(write.stored, x, position);
+    Write { stored, ..write }
 }
 
 // Entry `at` is the one after entry `i`.
+#[tactic(auto, using(crate::proofs::SweepBranches::is_next_branches, limits::proofs::BranchTests::tests))]
 fn is_next(i: usize, at: usize) -> bool
     ensures { result ≡ eqb at (suc i) }
 {
-    if i < at {
-        return at - i == 1;
-    }
-    false
+    i < at && at - i == 1
 }
 
 // The write of entry `i` before an insertion: covered if that is ordered and the new write goes directly behind it.
+#[tactic(auto, using(crate::proofs::SweepBranches::covered_by_branches, limits::proofs::BranchTests::tests))]
 fn covered_by(order: Order, i: usize, write: Write) -> Write
     ensures { result ≡ cover_at order i write }
 {
-    if order.covers {
-        if is_next(i, order.at) {
-            let stored = write.stored;
-            return Write {
-                value: write.value,
-                releasing: write.releasing,
-                covered: true,
-                stored,
-            };
+    if order.covers && is_next(i, order.at) {
+        Write {
+            covered: true,
+            ..write
         }
-        return write;
+    } else {
+        write
     }
-    write
 }
 
 // The turn of entry `i`, which has `old`, in a sweep that carries `carried`: before the place it keeps its write, from it on it takes the
 // carried one; stored views keep their writes.
+#[tactic(auto, using(limits::proofs::BranchTests::tests, crate::proofs::SweepBranches::turn_at_branches))]
 pub fn turn_at(order: Order, i: usize, carried: Write, old: Write) -> Turn
     ensures { result ≡ turn_of order i carried old }
 {
@@ -115,11 +105,9 @@ pub fn turn_at(order: Order, i: usize, carried: Write, old: Write) -> Turn
 }
 
 // How many entries a sweep visits: those in use afterwards, as far as there are entries.
+#[tactic(auto, using(crate::proofs::SweepBranches::visits_least, limits::proofs::BranchTests::tests))]
 pub fn visited(order: Order, entries: usize) -> usize
     ensures { result ≡ visits order entries }
 {
-    if order.count < entries {
-        return order.count;
-    }
-    entries
+    order.count.min(entries)
 }

@@ -9,10 +9,7 @@ use replay_memory::write::Write;
 pub fn read(table: &[Write], i: usize, none: Write) -> Write
     ensures { result ≡ get_or table.now i none }
 {
-    if i < table.len() {
-        return table[i];
-    }
-    none
+    if i < table.len() { table[i] } else { none }
 }
 
 // Inserts a write in one sweep: the entries from its place on move up by one, and every stored view keeps its writes. Entries that are
@@ -22,11 +19,9 @@ pub fn insert(order: Order, table: &mut [Write])
 {
     let n = visited(order, table.len());
     let mut carried = order.write;
-    let mut e: usize = 0;
-    while e < n {
+    for e in 0..n {
         let t = turn_at(order, e, carried, table[e]);
         table[e] = t.put;
         carried = t.next;
-        e += 1;
     }
 }

@@ -2,7 +2,7 @@
 use mathlib.Core.Path.{◌≡◌, refl, sym, ◌∙◌, subst}
 use mathlib.Core.Bool.{Bool, true, false}
 use mathlib.Core.List.{List}
-use Prim.Native.Nat.{ℕ, zero, suc, ◌+◌, ◌≤◌, ◌<◌}
+use Prim.Native.Nat.{ℕ, zero, suc, ◌+◌, ◌-◌, ◌≤◌, ◌<◌}
 use native.Mathlib.Numerals.{add-one}
 use native.Mathlib.Omega.{arith}
 use lib.Dec.{eqb}
@@ -49,10 +49,7 @@ module _ (s : List ℕ) (z : Sizes) (n : ℕ) (m : Marks) where
     pub premises_miss : (count : ℕ) → b ≡ false → j < count → false ≡ premises_marked s z n m count
     premises_miss count h g = missing count (j + 1) (sym h ∙ premises_step) (omega arith)
 
-  pub premises_all : (j count : ℕ) → true ≡ premises_marked s z n m j → j ≤ count → count ≤ j → true ≡ premises_marked s z n m count
-  premises_all j count so a b = let q : j ≡ count = omega arith in rw (← q) so
-
-pub ruleset premises_marked_branches = (premises_none, premises_more, premises_miss, premises_all)
+pub ruleset premises_marked_branches = (premises_none, premises_more, premises_miss)
 
 module _ (s t : List ℕ) (z : Sizes) (n : ℕ) (m : Marks) (l : Line) (a : Bool) (e : l ≡ line_in s (line_body z (bodies s) n))
     (d : a ≡ premises_marked s z n m l.count) where
@@ -74,16 +71,15 @@ module _ (s : List ℕ) (z : Sizes) where
   unfolding marks_to no_marks
   marks_none = refl
 
-  marks_step : (n : ℕ) → marks_to s z (n + 1) ≡ with_mark (marks_to s z n) (n + 1) (is_justified s templates z (n + 1) (marks_to s z n))
+  -- line n is judged by the marks of those before it
+  pub marks_more : (t : List ℕ) (n k : ℕ) (on after : List Bool) (b : Bool) → t ≡ templates → 1 ≤ n → k ≡ n → These on (n - 1)
+      → b ≡ is_justified s t z n (as_marks on)
+      → after ≡ (with_mark (as_marks on) n b).on → These after k
   unfolding marks_to
-  marks_step n = rw (add-one n)
+  marks_more t n k on after b e h i d f g =
+      let p : k ≡ suc (n - 1) = omega arith in
+      let q : suc (n - 1) ≡ n = omega arith in
+      subst (λ (m : ℕ). These after m) (sym p) (rw (← d, q, ← e, ← f, g))
 
-  pub marks_more : (t : List ℕ) (n : ℕ) (on after : List Bool) (b : Bool) → t ≡ templates → These on n
-      → b ≡ is_justified s t z (n + 1) (as_marks on)
-      → after ≡ (with_mark (as_marks on) (n + 1) b).on → These after (n + 1)
-  marks_more t n on after b e d f g = rw (marks_step n, ← d, ← e, ← f, g)
-
-  pub marks_all : (n last : ℕ) (on : List Bool) → These on n → n ≤ last → last ≤ n → These on last
-  marks_all n last on e a b = let q : n ≡ last = omega arith in rw (← q) e
-
-pub ruleset judge_lines_branches = (marks_none, marks_more, marks_all)
+  pub marks_all : (n k : ℕ) (on : List Bool) → These on (n - 1) → k ≡ n - 1 → These on k
+  marks_all n k on e a = subst (λ (m : ℕ). These on m) (sym a) e

@@ -11,27 +11,19 @@ pub struct Marks {
 }
 
 // Whether line `number` has a mark; a number that no line can have has none.
+#[tactic(auto, using(crate::proofs::MarkBranches::marks_branches))]
 pub fn is_marked(marks: &[bool], number: usize) -> bool
     ensures { result ≡ is_marked (as_marks marks.now) number }
 {
-    if number == 0 {
-        return false;
-    }
-    if marks.len() < number {
-        return false;
-    }
-    marks[number - 1]
+    number != 0 && number <= marks.len() && marks[number - 1]
 }
 
 // Sets the mark of line `number`; for a number that no line can have, nothing changes.
+#[tactic(auto, using(crate::proofs::MarkBranches::marks_branches))]
 pub fn set_mark(marks: &mut [bool], number: usize, mark: bool)
     ensures { marks.new ≡ (with_mark (as_marks marks.old) number mark).on }
 {
-    if number == 0 {
-        return;
+    if number != 0 && number <= marks.len() {
+        marks[number - 1] = mark;
     }
-    if marks.len() < number {
-        return;
-    }
-    marks[number - 1] = mark;
 }

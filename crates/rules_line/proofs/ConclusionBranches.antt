@@ -1,59 +1,64 @@
 -- Conclusions against templates: the ways through the functions, one law for each.
-use mathlib.Core.Path.{◌≡◌, refl}
+use mathlib.Core.Path.{◌≡◌, refl, sym, ◌∙◌}
 use mathlib.Core.Bool.{Bool, true, false}
 use mathlib.Core.List.{List}
-use Prim.Native.Nat.{ℕ, zero, suc, ◌+◌, ◌-◌, ◌/◌, ◌%◌, ◌≤◌, ◌<◌}
-use native.Mathlib.Numerals.{sub-one}
+use Prim.Native.Nat.{ℕ, suc, ◌+◌, ◌-◌, ◌/◌, ◌%◌, ◌≤◌, ◌<◌}
+use native.Mathlib.Omega.{arith}
 use lib.ListN.{get_or}
 use lib.Dec.{eqb}
-use borrow.Author.Tests.{lt-ltb, le-ltb, le-leb, lt-leb, eq-eqb, ne_eqb}
+use borrow.Author.Tests.{lt-ltb, le-ltb, eq-eqb, ne_eqb}
+use denote.Enum.Bare.{sameb}
+use Rattle.std.specs.Prelude.{Option, None, Some}
 use Rattle.limits.specs.Limits.{nesting, premises}
-use Rattle.limits.proofs.BranchTests.{lower}
+use Rattle.limits.proofs.BranchTests.{tests}
 use Rattle.formula_match.specs.MatchPlaces.{whole_at, then_whole}
 use Rattle.formula_match.specs.declared.bind.Bind.{Bind}
 use Rattle.formula_match.specs.declared.matching_whole.Whole.{Whole}
-use Rattle.formula_trees.specs.StatementTree.{hoare}
+use Rattle.formula_trees.specs.StatementTree.{acted}
+use Rattle.rules_table.specs.RuleTable.{form_number, form_numbered, same_form}
+use Rattle.rules_table.specs.declared.rule.Form.{Form}
+use Rattle.rules_table.specs.contracts.rule.Form.{the_type}
+use Rattle.rules_table.proofs.RuleForms.{form_flag}
 use Rattle.rules_line.specs.Conclusion.{placed_at, match_conclusion, no_conclusion, conclusion_at, match_from}
 use Rattle.rules_line.specs.declared.conclusion.Conclusion.{Conclusion}
 use Rattle.rules_line.specs.declared.conclusion.Premises.{Premises}
 
-module _ (form t k : ℕ) (c : Conclusion) where
-  pub placed_other : (c.form ≡ form → ⊥) → false ≡ placed_at form t k c
+module _ (form : Form) (t k : ℕ) (c : Conclusion) (o : Bool) (e : o ≡ sameb the_type c.form form) where
+  flag : (b : Bool) → o ≡ b → same_form c.form form ≡ b
+  flag b h = sym (form_flag c.form form) ∙ sym e ∙ h
+
+  pub placed_other : o ≡ false → false ≡ placed_at form t k c
   unfolding placed_at
-  placed_other n = rw (ne_eqb _ _ n)
+  placed_other h = rw (flag false h)
 
-  module _ (e : c.form ≡ form) where
-    pub placed_form : form < hoare → true ≡ placed_at form t k c
+  module _ (h : o ≡ true) (a : Bool) (d : a ≡ acted (form_number form)) where
+    pub placed_form : a ≡ false → true ≡ placed_at form t k c
     unfolding placed_at
-    placed_form n = rw (eq-eqb _ _ e, lt-leb _ _ n)
+    placed_form n = rw (flag true h, ← d, n)
 
-    module _ (h : hoare ≤ form) where
+    module _ (y : a ≡ true) where
       pub placed_thread : (c.thread ≡ t → ⊥) → false ≡ placed_at form t k c
       unfolding placed_at
-      placed_thread n = rw (eq-eqb _ _ e, le-leb _ _ h, ne_eqb _ _ n)
+      placed_thread n = rw (flag true h, ← d, y, ne_eqb _ _ n)
 
       pub placed_point : (b : Bool) → c.thread ≡ t → b ≡ eqb c.point k → b ≡ placed_at form t k c
       unfolding placed_at
-      placed_point b q d = rw (eq-eqb _ _ e, le-leb _ _ h, eq-eqb _ _ q) d
+      placed_point b q g = rw (flag true h, ← d, y, eq-eqb _ _ q) g
 
-pub ruleset is_placed_branches = (placed_other, placed_form, placed_thread, placed_point)
-
-module _ (s t : List ℕ) (i form thread point : ℕ) (c : Conclusion) (b : Bind) (p : Bool) (e : p ≡ placed_at form thread point c) where
-  pub conclusion_elsewhere : p ≡ false → record { ok = false; tpl = i; bind = b } ≡ match_conclusion s t i form thread point c b
+module _ (s t : List ℕ) (i thread point : ℕ) (form : Form) (c : Conclusion) (b : Bind) (p : Bool) (e : p ≡ placed_at form thread point c) where
+  pub conclusion_elsewhere : p ≡ false → None ≡ match_conclusion s t i form thread point c b
   unfolding match_conclusion
   conclusion_elsewhere n = rw (← e, n)
 
-  module _ (h : p ≡ true) (m : Whole) (d : m ≡ whole_at s t nesting i c.left b) where
-    pub conclusion_left : m.ok ≡ false → m ≡ match_conclusion s t i form thread point c b
+  module _ (h : p ≡ true) (m : Option Whole) (d : m ≡ whole_at s t nesting i c.left b) where
+    pub conclusion_left : m ≡ None → None ≡ match_conclusion s t i form thread point c b
     unfolding match_conclusion
     conclusion_left n = rw (← e, h, ← d, n)
 
-    pub conclusion_both : (r : Whole) → m.ok ≡ true → r ≡ whole_at s t nesting m.tpl c.right m.bind
+    pub conclusion_both : (w : Whole) (r : Option Whole) → m ≡ Some w → r ≡ whole_at s t nesting w.tpl c.right w.bind
         → r ≡ match_conclusion s t i form thread point c b
     unfolding match_conclusion
-    conclusion_both r o g = rw (← e, h, ← d, o) g
-
-pub ruleset match_conclusion_branches = (conclusion_elsewhere, conclusion_left, conclusion_both)
+    conclusion_both w r o g = rw (← e, h, ← d, o) g
 
 pub conclusion_there : (p : Premises) (j : ℕ) → j < premises → get_or p.conclusions j no_conclusion ≡ conclusion_at p j
 unfolding conclusion_at
@@ -63,29 +68,39 @@ pub conclusion_missing : (p : Premises) (j : ℕ) → premises ≤ j → no_conc
 unfolding conclusion_at
 conclusion_missing p j h = rw (le-ltb _ _ h)
 
-pub ruleset conclusion_at_branches = (conclusion_there, conclusion_missing)
+-- the premises from premise j on, where i is the position of their templates
+module _ (s t : List ℕ) (thread point : ℕ) (p : Premises) (n : ℕ) (all : Option Whole) where
+  abbrev pub Rest : ℕ → ℕ → ℕ → Bind → Type 0
+  Rest i forms j b = all ≡ match_from s t thread point p (n - j) i forms j b
 
-module _ (s t : List ℕ) (thread point : ℕ) (p : Premises) where
-  from_step : (n i forms j : ℕ) (b : Bind) → (n ≡ 0 → ⊥)
-      → match_from s t thread point p n i forms j b
-      ≡ then_whole (match_conclusion s t i (forms % 4) thread point (conclusion_at p j) b)
-      (λ m. match_from s t thread point p (n - 1) m.tpl (forms / 4) (j + 1) m.bind)
-  unfolding match_from
-  from_step zero i forms j b z = absurd (z refl)
-  from_step (suc n) i forms j b z = rw (sub-one (suc n))
-
-  module _ (n i forms j : ℕ) (b : Bind) where
-    pub from_none : n ≡ 0 → record { ok = true; tpl = i; bind = b } ≡ match_from s t thread point p n i forms j b
+  module _ (i forms j : ℕ) (b : Bind) (so : Rest i forms j b) where
+    pub from_none : n ≡ j → Some (record { tpl = i; bind = b }) ≡ all
     unfolding match_from
-    from_none e = rw e
+    from_none e = let d : n - j ≡ 0 = omega arith in sym (rw d at so)
 
-    module _ (z : n ≡ 0 → ⊥) (c : Conclusion) (e : c ≡ conclusion_at p j) (m : Whole)
-        (d : m ≡ match_conclusion s t i (forms % 4) thread point c b) where
-      pub from_no : m.ok ≡ false → m ≡ match_from s t thread point p n i forms j b
-      from_no o = rw (from_step n i forms j b z, ← e, ← d, o)
+    module _ (h : j < n) (f : Form) (ef : f ≡ form_numbered (forms % 4)) (c : Conclusion) (ec : c ≡ conclusion_at p j) (m : Option Whole)
+        (em : m ≡ match_conclusion s t i f thread point c b) where
+      step : all ≡ then_whole m (λ w. match_from s t thread point p (n - suc j) w.tpl (forms / 4) (j + 1) w.bind)
+      unfolding match_from
+      step = let d : n - j ≡ suc (n - suc j) = omega arith in rw (em, ec, ef) (rw d at so)
 
-      pub from_more : (r : Whole) → m.ok ≡ true → r ≡ match_from s t thread point p (n - 1) m.tpl (forms / 4) (j + 1) m.bind
-          → r ≡ match_from s t thread point p n i forms j b
-      from_more r o g = rw (from_step n i forms j b z, ← e, ← d, o) g
+      pub from_no : m ≡ None → None ≡ all
+      from_no o = sym (rw o at step)
 
-pub ruleset match_from_branches = (from_none, from_no, from_more, lower)
+      pub from_more : (w : Whole) → m ≡ Some w → Rest w.tpl (forms / 4) (j + 1) w.bind
+      from_more w o = let d : n - (j + 1) ≡ n - suc j = omega arith in rw d (rw o at step)
+
+pub ruleset match_from_branches = (from_none, from_no, from_more)
+
+pub ruleset conclusion_branches = (
+  placed_other,
+  placed_form,
+  placed_thread,
+  placed_point,
+  conclusion_elsewhere,
+  conclusion_left,
+  conclusion_both,
+  conclusion_there,
+  conclusion_missing,
+  tests,
+)

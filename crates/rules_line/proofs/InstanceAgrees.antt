@@ -2,12 +2,14 @@
 use mathlib.Core.Path.{◌≡◌, refl, ap, ap₂, sym, ◌∙◌, subst, subst₂}
 use mathlib.Core.Bool.{Bool, true, false, cond, ◌&&◌}
 use mathlib.Core.List.{List, [], ◌∷◌, map}
-use mathlib.Core.Option.{Option, none, some}
+use mathlib.Core.Option.{none, some}
+use mathlib.Core.Option as Taking
 use Prim.Native.Nat.{ℕ, zero, suc, ◌+◌, ◌≤◌}
 use native.Mathlib.Omega.{arith}
 use lib.Dec.{eqb, leb}
 use lib.ListN.{length}
 use borrow.Author.Tests.{eqb-true, eqb-false, eq-eqb, ne_eqb, lt-ltb}
+use Rattle.std.specs.Prelude.{Option, None, Some}
 use Rattle.semantics.specs.Base.{all}
 use Rattle.logic.specs.Opcode
 use Rattle.logic.specs.Rule.{Rule}
@@ -15,12 +17,12 @@ use Rattle.logic_schemas.specs.Rules.{Shape, Premises, these, implications, row}
 use Rattle.logic_schemas.specs.Fits.{is_among}
 use Rattle.limits.specs.Limits as Limits
 use Rattle.formula.specs.Codes.{member}
-use Rattle.formula_match.specs.Match.{Taken, and_then}
+use Rattle.formula_match.specs.Match.{Taken, and_then, when}
 use Rattle.formula_match.specs.MatchPlaces.{taken_of}
 use Rattle.formula_match.specs.Template.{shapes}
 use Rattle.formula_match.specs.declared.bind.Bind.{Bind}
 use Rattle.formula_match.specs.declared.matching_whole.Whole.{Whole}
-use Rattle.formula_match.proofs.TreesAgree.{Sized, given, when_given}
+use Rattle.formula_match.proofs.TreesAgree.{Sized, given}
 use Rattle.formula_trees.specs.StatementTree as Said
 use Rattle.rules_table.specs.FitTree as FitT
 use Rattle.formula_trees.specs.StatementTree.{TreeConclusion, hoare, paired, implication, form_of}
@@ -29,26 +31,27 @@ use Rattle.image_header.specs.Instruction.{first_operation}
 use Rattle.image_access.specs.AccessTrees.{acting_at}
 use Rattle.image_access.specs.declared.line.Line.{Line}
 use Rattle.image_access.specs.declared.acting_instruction.Acting.{Acting}
-use Rattle.rules_table.specs.RuleTable.{any_implications, rule_row, templates}
+use Rattle.rules_table.specs.RuleTable.{any_implications, form_number, rule_row, templates}
 use Rattle.rules_table.specs.TableTest.{packed, premise_count, allows}
 use Rattle.logic.specs.RuleNumbers.{number_of}
 use Rattle.rules_table.specs.declared.rule.Rule as Code
+use Rattle.rules_table.specs.declared.rule.Side as Sides
 use Rattle.rules_line.specs.Conclusion.{concluded_at, conclusion_at, conclusions_from, match_conclusion, match_from}
 use Rattle.rules_line.specs.LineConclusion.{conclusion_by}
 use Rattle.rules_line.specs.Premises.{is_implication_at, all_implications, match_premises}
 use Rattle.rules_line.specs.Preset.{preset_at}
 use Rattle.rules_line.specs.SideConditions.{asked}
-use Rattle.rules_line.specs.RuleInstance.{is_allowed, rest_at, line_match, fits_row}
+use Rattle.rules_line.specs.RuleInstance.{is_allowed, rest_at, then_ask, line_match, fits_row}
 use Rattle.rules_line.specs.declared.conclusion.Conclusion.{Conclusion}
 use Rattle.rules_line.specs.declared.conclusion.Premises as Conclusions
-use Rattle.rules_line.proofs.ConclusionAgrees.{StandAll, ConclusionFollows, conclusion_follows, from_follows}
+use Rattle.rules_line.proofs.ConclusionAgrees.{StandAll, bound, ConclusionFollows, conclusion_follows, from_follows}
 use Rattle.rules_line.proofs.Presets.{preset_sized, preset_taken}
 use Rattle.rules_line.proofs.RuleRow.{row-form, row_premises, row_few, row_forms, row_side, row_stands, row_operations}
 use Rattle.rules_line.proofs.SideConditionsAgree.{setup_in, sides_are}
 
 -- PREMISES
 
-then_none : {A B : Type 0} (o : Option A) (f : A → Option B) → ((a : A) → f a ≡ none) → and_then o f ≡ none
+then_none : {A B : Type 0} (o : Taking.Option A) (f : A → Taking.Option B) → ((a : A) → f a ≡ none) → and_then o f ≡ none
 then_none none f h = refl
 then_none (some a) f h = h a
 
@@ -69,7 +72,7 @@ four false b c d = refl
 
 module _ (s : List ℕ) (p : Conclusions.Premises) where
   abbrev is : ℕ → Bool
-  is j = eqb (conclusion_at p j).form implication
+  is j = eqb (form_number (conclusion_at p j).form) implication
 
   conclusions_length : (n j : ℕ) → length (map (concluded_at s) (conclusions_from p n j)) ≡ n
   conclusions_length zero j = refl
@@ -91,30 +94,33 @@ module _ (s : List ℕ) (p : Conclusions.Premises) where
   implications_are (suc (suc (suc (suc (suc n))))) e h = absurd (omega arith)
 
   module _ (thread point i : ℕ) (w : Code.Rule) (b : Bind) (z : Sized b) (few : p.count ≤ Limits.premises) where
-    abbrev found : Whole
+    abbrev found : Option Whole
     found = match_premises s templates i w thread point p b
+
+    -- what is taken where nothing is matched any more
+    when_bound : (x : Bool) → when x (taken_of s b) ≡ given s (bound (cond x (Some (record { tpl = i; bind = b })) None))
+    when_bound true = refl
+    when_bound false = refl
 
     premises_same : (W : Premises) → w.premises ≡ premise_count W → w.forms ≡ packed (shapes W) → length (shapes W) ≤ Limits.premises
         → StandAll templates i (shapes W)
-        → FitT.match_premises thread point W says (taken_of s b) ≡ given s found.ok found.bind
+        → FitT.match_premises thread point W says (taken_of s b) ≡ given s (bound found)
     unfolding match_premises
     premises_same implications e f h st =
-        rw (eq-eqb w.premises any_implications e) (when_given s (leb (length says) Limits.premises && all is_implication says) b
-        ∙ ap (λ (x : Bool). given s x b) (implications_are p.count refl few))
+        rw (eq-eqb w.premises any_implications e) (when_bound (leb (length says) Limits.premises && all is_implication says)
+        ∙ ap (λ (x : Bool). given s (bound (cond x (Some (record { tpl = i; bind = b })) None))) (implications_are p.count refl few))
     premises_same (these l) e f h st = rw (ne_eqb w.premises any_implications (λ (q : w.premises ≡ any_implications). omega arith))
         (go (eqb w.premises p.count) refl)
       where
         go : (x : Bool) → eqb w.premises p.count ≡ x
             → match_all thread point l says (taken_of s b)
-            ≡ given s (cond x (match_from s templates thread point p p.count i w.forms 0 b)
-            (record { ok = false; tpl = i; bind = b })).ok
-            (cond x (match_from s templates thread point p p.count i w.forms 0 b) (record { ok = false; tpl = i; bind = b })).bind
+            ≡ given s (bound (cond x (match_from s templates thread point p p.count i w.forms 0 b) None))
         go true d =
             let q : p.count ≡ length l = sym (eqb-true w.premises p.count d) ∙ e in
             subst₂
             (λ (n g : ℕ). match_all thread point l (map (concluded_at s) (conclusions_from p n 0)) (taken_of s b) ≡ given s
-            (match_from s templates thread point p n i g 0 b).ok (match_from s templates thread point p n i g 0 b).bind)
-            (sym q) (sym f) (from_follows s templates thread point p l i 0 b z st).same
+            (bound (match_from s templates thread point p n i g 0 b)))
+            (sym q) (sym f) (from_follows s templates thread point p l i 0 b z st)
         go false d = other_count thread point l says (taken_of s b)
             (λ q. eqb-false w.premises p.count d (e ∙ q ∙ conclusions_length p.count 0))
 
@@ -146,8 +152,8 @@ module _ (s : List ℕ) (n : Rule) (l : Line) (named : l.rule ≡ number_of n) (
   its : {B : Type 0} (f : Code.Rule → B) → f w ≡ f (rule_row (number_of n))
   its f = ap (λ (k : ℕ). f (rule_row k)) named
 
-  form_is : w.form ≡ form_of (row n).says
-  form_is = its (λ r. r.form) ∙ row-form n
+  form_is : form_number w.form ≡ form_of (row n).says
+  form_is = its (λ r. form_number r.form) ∙ row-form n
 
   -- an operation among those of the row
   bits : (op : ℕ) → op ≤ Opcode.assign_two → is_among op (row n).operations ≡ member w.operations op
@@ -164,53 +170,50 @@ module _ (s : List ℕ) (n : Rule) (l : Line) (named : l.rule ≡ number_of n) (
   rest_is : (b : Bind) → rest_t (setup_in s) A (row n) (concluded_at s c) (says s p) (taken_of s b) ≡ rest_at s w a c p b
   unfolding rest_at
   rest_is b = and_where _ _ _ _ operation_is (λ e. sides_are s b a c p few known.first n e
-      ∙ ap (λ (k : ℕ). asked s k b a c p) (sym (its (λ r. r.side) ∙ row_side n)))
+      ∙ ap (λ (k : Sides.Side). asked s k b a c p) (sym (its (λ r. r.side) ∙ row_side n)))
 
   abbrev b₀ : Bind
   b₀ = preset_at l.thread a.word a.register a.formula
 
-  abbrev m : Whole
+  abbrev m : Option Whole
   m = match_conclusion s templates w.template w.form c.thread c.point c b₀
 
   stands : StandAll templates w.template ((row n).says ∷ shapes (row n).premises)
   stands = subst (λ (i : ℕ). StandAll templates i ((row n).says ∷ shapes (row n).premises)) (sym (its (λ r. r.template))) (row_stands n)
 
   follows : ConclusionFollows s templates w.template c.thread c.point (row n).says c b₀ m
-  follows =
-      subst (λ (f : ℕ). ConclusionFollows s templates w.template c.thread c.point (row n).says c b₀
-      (match_conclusion s templates w.template f c.thread c.point c b₀)) (sym form_is)
-      (conclusion_follows s templates w.template c.thread c.point (row n).says c b₀
-      (preset_sized l.thread a.word a.register a.formula) stands.0)
+  follows = conclusion_follows s templates w.template c.thread c.point (row n).says w.form form_is c b₀
+      (preset_sized l.thread a.word a.register a.formula) stands.0
 
-  line_same : match_line c.thread c.point (row n).says (concluded_at s c) (preset c.thread A) ≡ given s m.ok m.bind
+  line_same : match_line c.thread c.point (row n).says (concluded_at s c) (preset c.thread A) ≡ given s (bound m)
   unfolding conclusion_by
   line_same = ap (match_line c.thread c.point (row n).says (concluded_at s c))
       (sym (preset_taken s l.thread a.operation a.whole a.word a.register a.formula A.notes)) ∙ follows.same
 
-  abbrev q : Whole
-  q = match_premises s templates m.tpl w c.thread c.point p m.bind
+  module _ (x : Whole) (e : m ≡ Some x) where
+    abbrev q : Option Whole
+    q = match_premises s templates x.tpl w c.thread c.point p x.bind
 
-  rests_same : m.ok ≡ true → FitT.match_premises c.thread c.point (row n).premises (says s p) (taken_of s m.bind) ≡ given s
-      q.ok q.bind
-  rests_same o =
-      premises_same s p c.thread c.point m.tpl w m.bind follows.sized few (row n).premises
-      (its (λ r. r.premises) ∙ row_premises n) (its (λ r. r.forms) ∙ row_forms n) (row_few n)
-      (subst (λ (i : ℕ). StandAll templates i (shapes (row n).premises)) (sym (follows.tpl o)) stands.1)
+    rests_same : FitT.match_premises c.thread c.point (row n).premises (says s p) (taken_of s x.bind) ≡ given s (bound q)
+    rests_same =
+        premises_same s p c.thread c.point x.tpl w x.bind (follows.stops x e).sized few (row n).premises
+        (its (λ r. r.premises) ∙ row_premises n) (its (λ r. r.forms) ∙ row_forms n) (row_few n)
+        (subst (λ (i : ℕ). StandAll templates i (shapes (row n).premises)) (sym (follows.stops x e).tpl) stands.1)
 
   abbrev asks : Taken → Bool
   asks = rest_t (setup_in s) A (row n) (concluded_at s c) (says s p)
 
   pub fits_same : fits_t (setup_in s) A n (concluded_at s c) (says s p) ≡ fits_row s templates l a p
   unfolding fits_row line_match
-  fits_same = ap (λ (o : Option Taken). answer (and_then o (FitT.match_premises c.thread c.point (row n).premises (says s p))) asks)
-      line_same ∙ go m.ok refl
+  fits_same = ap (λ o. answer (and_then o (FitT.match_premises c.thread c.point (row n).premises (says s p))) asks)
+      line_same ∙ go m refl
     where
-      then : (k : Bool) → answer (given s k q.bind) asks ≡ cond k (rest_at s w a c p q.bind) false
-      then true = rest_is q.bind
-      then false = refl
+      then : (o : Option Whole) → answer (given s (bound o)) asks ≡ then_ask o (λ y. rest_at s w a c p y.bind)
+      then None = refl
+      then (Some y) = rest_is y.bind
 
-      go : (k : Bool) → m.ok ≡ k → answer (and_then (given s k m.bind)
+      go : (o : Option Whole) → m ≡ o → answer (and_then (given s (bound o))
           (FitT.match_premises c.thread c.point (row n).premises (says s p))) asks
-          ≡ cond k (cond q.ok (rest_at s w a c p q.bind) false) false
-      go true e = ap (λ (o : Option Taken). answer o asks) (rests_same e) ∙ then q.ok
-      go false e = refl
+          ≡ then_ask o (λ x. then_ask (match_premises s templates x.tpl w c.thread c.point p x.bind) (λ y. rest_at s w a c p y.bind))
+      go None e = refl
+      go (Some x) e = ap (λ o. answer o asks) (rests_same x e) ∙ then (q x e)

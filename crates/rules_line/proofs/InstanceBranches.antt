@@ -3,19 +3,20 @@ use mathlib.Core.Path.{◌≡◌}
 use mathlib.Core.Bool.{Bool, true, false}
 use mathlib.Core.List.{List}
 use Prim.Native.Nat.{ℕ}
-use borrow.Author.Tests.{eq-eqb, ne_eqb}
+use Rattle.std.specs.Prelude.{Option, None, Some}
+use Rattle.limits.proofs.BranchTests.{tests}
 use Rattle.formula.specs.Codes.{member}
 use Rattle.image_frames.specs.Records.{bodies}
 use Rattle.image_header.specs.declared.sizes.Sizes.{Sizes}
 use Rattle.image_bodies.specs.RecordPlaces.{instruction_of}
 use Rattle.formula_match.specs.declared.bind.Bind.{Bind}
 use Rattle.formula_match.specs.declared.matching_whole.Whole.{Whole}
-use Rattle.formula_trees.specs.StatementTree.{hoare, paired}
 use Rattle.image_meaning.specs.Certificate.{line_body}
 use Rattle.image_access.specs.AccessPlaces.{acting_of, line_in}
 use Rattle.image_access.specs.declared.line.Line.{Line}
 use Rattle.image_access.specs.declared.acting_instruction.Acting.{Acting}
 use Rattle.rules_table.specs.RuleTable.{rule_row}
+use Rattle.rules_table.specs.declared.rule.Form.TheVariants.{Inclusion, Implication, Triple, Pair, Unlisted}
 use Rattle.rules_table.specs.declared.rule.Rule.{Rule}
 use Rattle.rules_line.specs.Conclusion.{match_conclusion}
 use Rattle.rules_line.specs.LineConclusion.{conclusion_by, line_at}
@@ -27,18 +28,25 @@ use Rattle.rules_line.specs.declared.conclusion.Conclusion.{Conclusion}
 use Rattle.rules_line.specs.declared.conclusion.Premises.{Premises}
 
 module _ (w : Rule) (a : Acting) where
-  pub allowed_triple : (b : Bool) → w.form ≡ hoare → b ≡ member w.operations a.operation → b ≡ is_allowed w a
+  pub allowed_triple : (b : Bool) → w.form ≡ Triple → b ≡ member w.operations a.operation → b ≡ is_allowed w a
   unfolding is_allowed
-  allowed_triple b e d = rw (eq-eqb _ _ e) d
+  allowed_triple b e d = rw e d
 
-  module _ (n : w.form ≡ hoare → ⊥) where
-    pub allowed_pair : (b : Bool) → w.form ≡ paired → b ≡ member w.operations a.whole → b ≡ is_allowed w a
-    unfolding is_allowed
-    allowed_pair b e d = rw (ne_eqb _ _ n, eq-eqb _ _ e) d
+  pub allowed_pair : (b : Bool) → w.form ≡ Pair → b ≡ member w.operations a.whole → b ≡ is_allowed w a
+  unfolding is_allowed
+  allowed_pair b e d = rw e d
 
-    pub allowed_other : (w.form ≡ paired → ⊥) → true ≡ is_allowed w a
-    unfolding is_allowed
-    allowed_other m = rw (ne_eqb _ _ n, ne_eqb _ _ m)
+  pub allowed_inclusion : w.form ≡ Inclusion → true ≡ is_allowed w a
+  unfolding is_allowed
+  allowed_inclusion e = rw e
+
+  pub allowed_implication : w.form ≡ Implication → true ≡ is_allowed w a
+  unfolding is_allowed
+  allowed_implication e = rw e
+
+  pub allowed_unlisted : w.form ≡ Unlisted → true ≡ is_allowed w a
+  unfolding is_allowed
+  allowed_unlisted e = rw e
 
 module _ (s : List ℕ) (w : Rule) (a : Acting) (c : Conclusion) (p : Premises) (b : Bind) (o : Bool) (e : o ≡ is_allowed w a) where
   pub rest_asked : (r : Bool) → o ≡ true → r ≡ asked s w.side b a c p → r ≡ rest_at s w a c p b
@@ -49,28 +57,27 @@ module _ (s : List ℕ) (w : Rule) (a : Acting) (c : Conclusion) (p : Premises) 
   unfolding rest_at
   rest_refused h = rw (← e, h)
 
-pub ruleset rule_instance_allowing = (allowed_triple, allowed_pair, allowed_other, rest_asked, rest_refused)
-
-pub line_matched : (s t : List ℕ) (w : Rule) (l : Line) (a : Acting) (c : Conclusion) (b : Bind) (r : Whole)
+pub line_matched : (s t : List ℕ) (w : Rule) (l : Line) (a : Acting) (c : Conclusion) (b : Bind) (r : Option Whole)
     → b ≡ preset_at l.thread a.word a.register a.formula
     → r ≡ match_conclusion s t w.template w.form c.thread c.point c b → r ≡ line_match s t w l a c
 unfolding line_match
 line_matched s t w l a c b r e d = rw (← e) d
 
-module _ (s t : List ℕ) (l : Line) (a : Acting) (p : Premises) (w : Rule) (c : Conclusion) (m : Whole) (ew : w ≡ rule_row l.rule)
-    (ec : c ≡ conclusion_by l a.whole) (em : m ≡ line_match s t w l a c) where
-  pub row_conclusion : m.ok ≡ false → false ≡ fits_row s t l a p
+-- y: the image's bytes
+module _ (s t y : List ℕ) (l : Line) (a : Acting) (p : Premises) (w : Rule) (c : Conclusion) (m : Option Whole) (v : y ≡ s)
+    (ew : w ≡ rule_row l.rule) (ec : c ≡ conclusion_by l a.whole) (em : m ≡ line_match y t w l a c) where
+  pub row_conclusion : m ≡ None → false ≡ fits_row s t l a p
   unfolding fits_row
-  row_conclusion h = rw (← ew, ← ec, ← em, h)
+  row_conclusion h = rw (← ew, ← ec, ← v, ← em, h)
 
-  module _ (h : m.ok ≡ true) (q : Whole) (eq : q ≡ match_premises s t m.tpl w c.thread c.point p m.bind) where
-    pub row_premises : q.ok ≡ false → false ≡ fits_row s t l a p
+  module _ (x : Whole) (h : m ≡ Some x) (q : Option Whole) (eq : q ≡ match_premises y t x.tpl w c.thread c.point p x.bind) where
+    pub row_premises : q ≡ None → false ≡ fits_row s t l a p
     unfolding fits_row
-    row_premises g = rw (← ew, ← ec, ← em, h, ← eq, g)
+    row_premises g = rw (← ew, ← ec, ← v, ← em, h, ← eq, g)
 
-    pub row_rest : (r : Bool) → q.ok ≡ true → r ≡ rest_at s w a c p q.bind → r ≡ fits_row s t l a p
+    pub row_rest : (z : Whole) (r : Bool) → q ≡ Some z → r ≡ rest_at s w a c p z.bind → r ≡ fits_row s t l a p
     unfolding fits_row
-    row_rest r g d = rw (← ew, ← ec, ← em, h, ← eq, g) d
+    row_rest z r g d = rw (← ew, ← ec, ← v, ← em, h, ← eq, g) (rw (← v) at d)
 
 pub line-fits : (s t : List ℕ) (z : Sizes) (n : ℕ) (l : Line) (a : Acting) (p : Premises) (r : Bool)
     → l ≡ line_in s (line_body z (bodies s) n) → a ≡ acting_of s (instruction_of z (bodies s) l.thread l.point)
@@ -78,4 +85,18 @@ pub line-fits : (s t : List ℕ) (z : Sizes) (n : ℕ) (l : Line) (a : Acting) (
 unfolding fits_line acting_in line_at
 line-fits s t z n l a p r e d f g = rw (← e, ← d, ← f) g
 
-pub ruleset rule_instance_fitting = (line_matched, row_conclusion, row_premises, row_rest, line-fits)
+pub ruleset rule_instance_branches = (
+  allowed_triple,
+  allowed_pair,
+  allowed_inclusion,
+  allowed_implication,
+  allowed_unlisted,
+  rest_asked,
+  rest_refused,
+  line_matched,
+  row_conclusion,
+  row_premises,
+  row_rest,
+  line-fits,
+  tests,
+)

@@ -1,6 +1,6 @@
 -- What a line of a sound image concludes, by positions, is what it says in the logic.
 use mathlib.Core.Path.{◌≡◌, refl, ap, sym, ◌∙◌}
-use mathlib.Core.Bool.{Bool, true, false, not, ◌||◌, true≢false}
+use mathlib.Core.Bool.{Bool, true, false, cond, not, ◌||◌, true≢false}
 use mathlib.Core.List.{List}
 use Prim.Native.Nat.{ℕ, ◌≤◌}
 use native.Mathlib.Omega.{arith}
@@ -15,15 +15,19 @@ use Rattle.image_header.specs.declared.sizes.Sizes.{Sizes}
 use Rattle.image_bodies.specs.declared.line.Form.{Form}
 use Rattle.image_bodies.specs.declared.line.Form.TheVariants.{Triple, Implication, Inclusion, Pair, Unlisted}
 use Rattle.image_bodies.specs.Line.{form_of, placed}
-use Rattle.formula_trees.specs.StatementTree.{concluded}
+use Rattle.formula_trees.specs.StatementTree.{concluded, hoare, paired}
+use Rattle.image_header.specs.Instruction.{pair_operation}
 use Rattle.image_meaning.specs.Certificate.{line_body, certificate_of}
 use Rattle.image_access.specs.AccessPlaces.{line_in}
-use Rattle.image_access.specs.AccessTrees.{tree_at, form_number, spoken}
+use Rattle.image_access.specs.AccessTrees as Said
+use Rattle.image_access.specs.AccessTrees.{tree_at, spoken}
 use Rattle.image_meaning.proofs.RecordsChecked.{Checks}
 use Rattle.image_meaning.proofs.LinesAdmitted.{numbers_passed}
 use Rattle.image_access.proofs.RuleForm.{rule_form}
 use Rattle.image_access.proofs.AccessAgree.{line_is}
-use Rattle.rules_table.specs.RuleTable.{rule_row}
+use Rattle.rules_table.specs.declared.rule.Form as Code
+use Rattle.rules_table.specs.declared.rule.Form.TheVariants as Row
+use Rattle.rules_table.specs.RuleTable.{form_number, rule_row}
 use Rattle.logic.specs.RuleNumbers.{rule_of, number_of}
 use Rattle.rules_line.specs.Conclusion.{concluded_at}
 use Rattle.rules_line.specs.LineConclusion.{spoken_form, conclusion_by, line_at, operation_at, conclusion_of}
@@ -66,12 +70,23 @@ rule_number n l = go (ltb n 51) refl
     go false e = absurd (true≢false (sym l ∙ none_past n (ltb-false n 51 e)))
 
 -- the form of its row
-pub conclusion_form : (n : ℕ) → is_listed (form_of n) ≡ true → (rule_row n).form ≡ form_number (form_of n)
-conclusion_form n l = ap (λ (k : ℕ). (rule_row k).form) (sym (rule_number n l)) ∙ row-form (rule_of n) ∙ rule_form n
+pub conclusion_form : (n : ℕ) → is_listed (form_of n) ≡ true → form_number (rule_row n).form ≡ Said.form_number (form_of n)
+conclusion_form n l = ap (λ (k : ℕ). form_number (rule_row k).form) (sym (rule_number n l)) ∙ row-form (rule_of n) ∙ rule_form n
+
+-- the number of the form that a line has
+spoken_number : (f : Code.Form) (op : ℕ)
+    → form_number (spoken_form f op) ≡ cond (eqb (form_number f) paired) (cond (pair_operation op) paired hoare) (form_number f)
+unfolding spoken_form
+spoken_number f op = go (eqb (form_number f) paired) (pair_operation op)
+  where
+    go : (a b : Bool) → form_number (cond a (cond b Row.Pair Row.Triple) f) ≡ cond a (cond b paired hoare) (form_number f)
+    go true true = refl
+    go true false = refl
+    go false b = refl
 
 -- and what the line says with it
-spoken_is : (f : Form) (op : ℕ) → spoken_form (form_number f) op ≡ spoken f op
-unfolding spoken_form
+spoken_is : (f : Form) (op : ℕ)
+    → cond (eqb (Said.form_number f) paired) (cond (pair_operation op) paired hoare) (Said.form_number f) ≡ spoken f op
 spoken_is Triple op = refl
 spoken_is Implication op = refl
 spoken_is Inclusion op = refl
@@ -102,6 +117,8 @@ module _ (s : List ℕ) (z : Sizes) (c : Checks z (bodies s)) (n : ℕ) (w : Wit
         left = tree_at s (line_at s z n).left;
         right = tree_at s (line_at s z n).right;
       })
-      (ap (λ (f : ℕ). spoken_form f (operation_at s z (line_at s z n))) (conclusion_form (line_at s z n).rule line_listed)
+      (spoken_number (rule_row (line_at s z n).rule).form (operation_at s z (line_at s z n))
+      ∙ ap (λ (f : ℕ). cond (eqb f paired) (cond (pair_operation (operation_at s z (line_at s z n))) paired hoare) f)
+      (conclusion_form (line_at s z n).rule line_listed)
       ∙ spoken_is (form_of (line_at s z n).rule) (operation_at s z (line_at s z n)))
       ∙ sym (line_is s z c n w)

@@ -4,6 +4,9 @@ use mathlib.Core.Bool.{Bool, true, false, cond, ◌&&◌}
 use mathlib.Core.List.{List}
 use Prim.Native.Nat.{ℕ, ◌-◌}
 use borrow.Author.Tests.{eq-eqb, ne_eqb}
+use Rattle.limits.proofs.BranchTests.{tests}
+use Rattle.std.specs.Prelude.{Option, None, Some, is_some}
+use native.Mathlib.Omega.{arith}
 use Rattle.semantics.specs.Code
 use Rattle.semantics.specs.Code.{byte}
 use Rattle.logic.specs.Opcode
@@ -14,29 +17,23 @@ use Rattle.formula.specs.declared.node.Node.{Node}
 use Rattle.formula.proofs.NodeBranches.{parse_zero, parse_step, parts_of}
 use Rattle.formula_compare.specs.Same.{same_tree, same_of}
 use Rattle.formula_compare.specs.Replace.{leaf_only}
-use Rattle.formula_compare.specs.declared.same.Same.{Same}
-use Rattle.formula_compare.specs.declared.same.Same.TheVariants.{Yes, No}
 use Rattle.formula_compare.proofs.ByPair.{same_node_none, same_nodes}
 use Rattle.rules_line.specs.NewValue.{formula_is, sum_is, fresh_is}
-use Rattle.rules_line.proofs.SideTestBranches.{answer_no, answer_yes, no_yes}
+use Rattle.rules_line.proofs.SideTestBranches.{answered}
 
-module _ (s : List ℕ) (f at k : ℕ) (r : Same) (e : r ≡ same_of (parse_tree s nesting f) (parse_tree s k at)) where
-  pub formula_no : r ≡ No → false ≡ formula_is s f (parse_tree s k at).tree
-  unfolding formula_is
-  formula_no n = answer_no _ (parse_tree s nesting f).end (parse_tree s k at).end (sym n ∙ e)
-
-  pub formula_yes : (i j : ℕ) → r ≡ Yes i j → true ≡ formula_is s f (parse_tree s k at).tree
-  unfolding formula_is
-  formula_yes i j n = answer_yes _ (parse_tree s nesting f).end (parse_tree s k at).end i j (sym n ∙ e)
+pub formula_answer : (s : List ℕ) (f at k : ℕ) (r : Option (ℕ × ℕ)) (b : Bool) → r ≡ same_of (parse_tree s nesting f) (parse_tree s k at)
+    → b ≡ is_some r → b ≡ formula_is s f (parse_tree s k at).tree
+unfolding formula_is
+formula_answer s f at k r b e d = d ∙ answered r _ _ e
 
 -- an answer with its end
-yes_end : (b : Bool) (i j p q : ℕ) → Yes p q ≡ cond b (Yes i j) No → q ≡ j
-yes_end true i j p q h = ap second h
-  where
-    second : Same → ℕ
-    second (Yes x y) = y
-    second No = 0
-yes_end false i j p q h = absurd (no_yes (sym h))
+answer_end : (b : Bool) (i j : ℕ) (x : ℕ × ℕ) → Some x ≡ cond b (Some (i, j)) None → (b ≡ true) × (x.1 ≡ j)
+answer_end true i j x h = (refl, let q : x ≡ (i, j) = cc in ap (λ (y : ℕ × ℕ). y.1) q)
+answer_end false i j x h = let q : ◌≡◌ {A = ℕ} 0 1 = cc in absurd (omega arith)
+
+answer_none : (b : Bool) (x : ℕ × ℕ) → None ≡ cond b (Some x) None → b ≡ false
+answer_none true x h = let q : ◌≡◌ {A = ℕ} 0 1 = cc in absurd (omega arith)
+answer_none false x h = refl
 
 module _ (s : List ℕ) (r f at k : ℕ) where
   abbrev sum : Tree
@@ -72,17 +69,18 @@ module _ (s : List ℕ) (r f at k : ℕ) where
       unfolding sum_is formula_is
       split = rw (stepped, same_nodes, eq-eqb _ _ (sym c), eq-eqb _ _ (sym o), two)
 
-      module _ (v : Same) (ev : v ≡ same_of (leaf_only (byte Code.reg) r) first) where
-        pub sum_first : v ≡ No → false ≡ sum_is s r f (parse_tree s k at).tree
-        sum_first n = let q : false ≡ same_tree (leaf_only (byte Code.reg) r).tree first.tree =
-            answer_no _ 0 first.end (sym n ∙ ev) in rw (split, ← q)
+      module _ (v : Option (ℕ × ℕ)) (ev : v ≡ same_of (leaf_only (byte Code.reg) r) first) where
+        pub sum_first : v ≡ None → false ≡ sum_is s r f (parse_tree s k at).tree
+        sum_first n = let q : same_tree (leaf_only (byte Code.reg) r).tree first.tree ≡ false =
+            answer_none _ (0, first.end) (sym n ∙ ev) in rw (split, q)
 
-        pub sum_second : (a q : ℕ) (u : Bool) → v ≡ Yes a q → u ≡ formula_is s f (parse_tree s (k - 1) q).tree
+        pub sum_second : (x : ℕ × ℕ) (u : Bool) → v ≡ Some x → u ≡ formula_is s f (parse_tree s (k - 1) x.1).tree
             → u ≡ sum_is s r f (parse_tree s k at).tree
-        sum_second a q u n d =
-            let y : true ≡ same_tree (leaf_only (byte Code.reg) r).tree first.tree = answer_yes _ 0 first.end a q (sym n ∙ ev) in
-            let z : q ≡ first.end = yes_end (same_tree (leaf_only (byte Code.reg) r).tree first.tree) 0 first.end a q (sym n ∙ ev) in
-            rw (split, ← y, ← z) d
+        sum_second x u n d =
+            let y = answer_end (same_tree (leaf_only (byte Code.reg) r).tree first.tree) 0 first.end x (sym n ∙ ev) in
+            let a : same_tree (leaf_only (byte Code.reg) r).tree first.tree ≡ true = y.0 in
+            let z : first.end ≡ x.1 = sym y.1 in
+            rw (split, a, z) d
 
 pub reg_parts : part_count (byte Code.reg) ≡ 0
 unfolding part_count
@@ -98,8 +96,7 @@ module _ (s : List ℕ) (op r f : ℕ) (t : Tree) (u : Bool) where
   fresh_formula h d = rw (ne_eqb _ _ h) d
 
 pub ruleset new_value_branches = (
-  formula_no,
-  formula_yes,
+  formula_answer,
   sum_zero,
   sum_other,
   sum_operand,
@@ -108,4 +105,5 @@ pub ruleset new_value_branches = (
   reg_parts,
   fresh_sum,
   fresh_formula,
+  tests,
 )

@@ -1,20 +1,24 @@
 -- The ways through the premises, one law for each.
-use mathlib.Core.Path.{◌≡◌}
+use mathlib.Core.Path.{◌≡◌, ◌∙◌}
 use mathlib.Core.Bool.{Bool, true, false}
 use mathlib.Core.List.{List, [], ◌∷◌}
 use Prim.Native.Nat.{ℕ, ◌≤◌, ◌<◌}
-use lib.Dec.{eqb}
+use denote.Enum.Bare.{sameb}
+use Rattle.std.specs.Prelude.{Option, None, Some}
 use lib.ListN.{get_or}
 use borrow.Author.Tests.{le-leb, lt-leb, lt-ltb, le-ltb, eq-eqb, ne_eqb}
+use Rattle.limits.proofs.BranchTests.{tests}
 use Rattle.limits.specs.Limits as Limits
 use Rattle.image_frames.specs.Records.{bodies}
 use Rattle.image_header.specs.declared.sizes.Sizes.{Sizes}
 use Rattle.image_bodies.specs.Line as Lines
 use Rattle.formula_match.specs.declared.bind.Bind.{Bind}
 use Rattle.formula_match.specs.declared.matching_whole.Whole.{Whole}
-use Rattle.formula_trees.specs.StatementTree.{implication}
 use Rattle.image_meaning.specs.Certificate.{line_body}
 use Rattle.rules_table.specs.RuleTable.{any_implications}
+use Rattle.rules_table.specs.declared.rule.Form.TheVariants.{Implication}
+use Rattle.rules_table.specs.contracts.rule.Form.{the_type}
+use Rattle.rules_table.proofs.RuleForms.{form_flag}
 use Rattle.rules_table.specs.declared.rule.Rule.{Rule}
 use Rattle.rules_line.specs.Conclusion.{no_conclusion, conclusion_at, match_from}
 use Rattle.rules_line.specs.LineConclusion.{conclusion_of}
@@ -43,10 +47,10 @@ module _ (p : Premises) where
   unfolding is_implication_at
   implication_past j h = rw (le-leb _ _ h)
 
-  pub implication_there : (j : ℕ) (c : Conclusion) (b : Bool) → j < p.count → c ≡ conclusion_at p j → b ≡ eqb c.form implication
+  pub implication_there : (j : ℕ) (c : Conclusion) (b : Bool) → j < p.count → c ≡ conclusion_at p j → b ≡ sameb the_type c.form Implication
       → b ≡ is_implication_at p j
   unfolding is_implication_at
-  implication_there j c b h e d = rw (lt-leb _ _ h, ← e) d
+  implication_there j c b h e d = rw (lt-leb _ _ h, ← e) (d ∙ form_flag c.form Implication)
 
   pub too_many : Limits.premises < p.count → false ≡ all_implications p
   unfolding all_implications
@@ -71,6 +75,26 @@ module _ (p : Premises) where
     unfolding all_implications
     by_fourth a b c d e h f g i k l = rw (le-ltb _ _ few, ← e, h, ← f, g, ← i, k) l
 
+module _ (s t : List ℕ) (i : ℕ) (w : Rule) (thread point : ℕ) (p : Premises) (b : Bind) where
+  module _ (e : w.premises ≡ any_implications) (o : Bool) (d : o ≡ all_implications p) where
+    pub premises_any : o ≡ true → Some (record { tpl = i; bind = b }) ≡ match_premises s t i w thread point p b
+    unfolding match_premises
+    premises_any h = rw (eq-eqb _ _ e, ← d, h)
+
+    pub premises_none : o ≡ false → None ≡ match_premises s t i w thread point p b
+    unfolding match_premises
+    premises_none h = rw (eq-eqb _ _ e, ← d, h)
+
+  pub premises_counted : (r : Option Whole) → (w.premises ≡ any_implications → ⊥) → w.premises ≡ p.count
+      → r ≡ match_from s t thread point p p.count i w.forms 0 b → r ≡ match_premises s t i w thread point p b
+  unfolding match_premises
+  premises_counted r n e d = rw (ne_eqb _ _ n, eq-eqb _ _ e) d
+
+  pub premises_other : (w.premises ≡ any_implications → ⊥) → (w.premises ≡ p.count → ⊥)
+      → None ≡ match_premises s t i w thread point p b
+  unfolding match_premises
+  premises_other n m = rw (ne_eqb _ _ n, ne_eqb _ _ m)
+
 pub ruleset premises_branches = (
   premise_past,
   premise_there,
@@ -82,22 +106,9 @@ pub ruleset premises_branches = (
   not_second,
   not_third,
   by_fourth,
+  premises_any,
+  premises_none,
+  premises_counted,
+  premises_other,
+  tests,
 )
-
-module _ (s t : List ℕ) (i : ℕ) (w : Rule) (thread point : ℕ) (p : Premises) (b : Bind) where
-  pub premises_any : (o : Bool) → w.premises ≡ any_implications → o ≡ all_implications p
-      → record { ok = o; tpl = i; bind = b } ≡ match_premises s t i w thread point p b
-  unfolding match_premises
-  premises_any o e d = rw (eq-eqb _ _ e, d)
-
-  pub premises_counted : (r : Whole) → (w.premises ≡ any_implications → ⊥) → w.premises ≡ p.count
-      → r ≡ match_from s t thread point p p.count i w.forms 0 b → r ≡ match_premises s t i w thread point p b
-  unfolding match_premises
-  premises_counted r n e d = rw (ne_eqb _ _ n, eq-eqb _ _ e) d
-
-  pub premises_other : (w.premises ≡ any_implications → ⊥) → (w.premises ≡ p.count → ⊥)
-      → record { ok = false; tpl = i; bind = b } ≡ match_premises s t i w thread point p b
-  unfolding match_premises
-  premises_other n m = rw (ne_eqb _ _ n, ne_eqb _ _ m)
-
-pub ruleset match_premises_branches = (premises_any, premises_counted, premises_other)

@@ -22,9 +22,10 @@ use Rattle.formula_match.specs.Template.{shapes}
 use Rattle.formula_match.specs.MatchPlaces.{proper}
 use Rattle.formula_trees.specs.StatementTree.{form_of}
 use Rattle.rules_table.specs.FitTree.{left_of, right_of}
-use Rattle.rules_table.specs.RuleTable.{rule_row, templates}
-use Rattle.rules_table.specs.TableTest.{trees, stand_at, packed, premise_count, premises_right, allows, same_bit, operations, side_number}
+use Rattle.rules_table.specs.RuleTable.{form_number, rule_row, templates}
+use Rattle.rules_table.specs.TableTest.{trees, stand_at, packed, premise_count, premises_right, allows, same_bit, operations, side_of, same_side}
 use Rattle.logic.specs.RuleNumbers.{number_of}
+use Rattle.rules_table.proofs.RuleForms.{same_sides}
 use Rattle.rules_table.proofs.TableAgrees.{listed-right}
 use Rattle.rules_line.proofs.ConclusionAgrees.{StandAll}
 
@@ -57,7 +58,7 @@ stand_all i (m ∷ l) h =
 
 module _ (n : Rule) where
   abbrev form : Bool
-  form = eqb (rule_row (number_of n)).form (form_of (row n).says)
+  form = eqb (form_number (rule_row (number_of n)).form) (form_of (row n).says)
 
   abbrev count : Bool
   count = premises_right n
@@ -78,7 +79,7 @@ module _ (n : Rule) where
   bits = all same_at operations
 
   abbrev side : Bool
-  side = eqb (rule_row (number_of n)).side (side_number (row n).sides)
+  side = same_side (rule_row (number_of n)).side (side_of (row n).sides)
 
   abbrev stands : Bool
   stands = stand_at (rule_row (number_of n)).template (trees ((row n).says ∷ shapes (row n).premises))
@@ -89,7 +90,7 @@ module _ (n : Rule) where
   asks : T ((bits && side) && stands)
   asks = and_right (form && (count && forms)) ((bits && side) && stands) (listed-right n)
 
-  pub row-form : (rule_row (number_of n)).form ≡ form_of (row n).says
+  pub row-form : form_number (rule_row (number_of n)).form ≡ form_of (row n).says
   row-form = eqb→eq _ _ (and_left form (count && forms) conclusions)
 
   pub row_premises : (rule_row (number_of n)).premises ≡ premise_count (row n).premises
@@ -101,8 +102,8 @@ module _ (n : Rule) where
   pub row_forms : (rule_row (number_of n)).forms ≡ packed (shapes (row n).premises)
   row_forms = eqb→eq _ _ (and_right count forms (and_right form (count && forms) conclusions))
 
-  pub row_side : (rule_row (number_of n)).side ≡ side_number (row n).sides
-  row_side = eqb→eq _ _ (and_right bits side (and_left (bits && side) stands asks))
+  pub row_side : (rule_row (number_of n)).side ≡ side_of (row n).sides
+  row_side = same_sides _ _ (and_right bits side (and_left (bits && side) stands asks))
 
   pub row_stands : StandAll templates (rule_row (number_of n)).template ((row n).says ∷ shapes (row n).premises)
   row_stands = stand_all (rule_row (number_of n)).template ((row n).says ∷ shapes (row n).premises) (and_right (bits && side) stands asks)

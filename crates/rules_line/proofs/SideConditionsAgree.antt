@@ -1,4 +1,4 @@
--- What is asked by number, of holes by position, is what the logic's rows ask of trees.
+-- What is asked of holes by position, is what the logic's rows ask of trees.
 use mathlib.Core.Path.{◌≡◌, refl, ap, ap₂, sym, ◌∙◌, subst}
 use mathlib.Core.Bool.{Bool, true, false, not, cond, ◌&&◌, ◌||◌, true≢false}
 use mathlib.Core.List.{List, [], map}
@@ -22,7 +22,11 @@ use Rattle.limits.specs.Limits.{nesting}
 use Rattle.limits.specs.Numbers.{nth}
 use Rattle.formula.specs.Tree.{Tree, Tree.node, parse_tree}
 use Rattle.formula_compare.specs.Same.{same_tree}
-use Rattle.formula_compare.specs.Replace.{NoteT, replace_t, name_code, one_name, named, substituted}
+use Rattle.std.specs.Prelude.{None, Some}
+use Rattle.formula_compare.specs.Replace.{NoteT, replace_t, is_named, one_name, named, stands_for, replacing_of, put_for, substituted}
+use Rattle.formula_compare.specs.declared.replace.Name.{Name}
+use Rattle.formula_compare.specs.declared.replace.Replacing.{Replacing}
+use Rattle.formula_compare.proofs.ByPair.{one_alone}
 use Rattle.formula_compare.specs.declared.replace.Replacing.TheVariants.{Formula, Word}
 use Rattle.formula_compare.specs.Occurs.{occurs, register, word_any_role, flag}
 use Rattle.formula_trees.proofs.TreeAgree.{tree_eq, tree_refl}
@@ -39,11 +43,12 @@ use Rattle.formula_trees.specs.StatementTree.{TreeConclusion, form_of}
 use Rattle.rules_table.specs.FitTree.{Setup, holes_from, or_else, apart_t, keeps_t, fresh_t, side_t, operation_t}
 use Rattle.image_access.specs.AccessTrees.{tree_at, gives_t, notes_by, acting_at}
 use Rattle.image_access.specs.declared.acting_instruction.Acting.{Acting}
-use Rattle.rules_table.specs.TableTest.{side_number}
+use Rattle.rules_table.specs.TableTest.{side_of}
+use Rattle.rules_table.specs.declared.rule.Side.TheVariants.{Nothing}
 use Rattle.rules_line.specs.Conclusion.{concluded_at, conclusions_from}
 use Rattle.rules_line.specs.NewValue.{formula_is, sum_is, fresh_is}
 use Rattle.rules_line.specs.SideTests.{hole_of, number_in, tree_of, apart, keeps, one_by, is_with, stored_by, is_start}
-use Rattle.rules_line.specs.SideConditions.{substitution_of, assigned_by, loaded_by, of_instruction, implications_of, of_names, asked}
+use Rattle.rules_line.specs.SideConditions.{substitution_of, assigned_by, loaded_by, implications_of, of_names, asked}
 use Rattle.rules_line.specs.declared.conclusion.Conclusion.{Conclusion}
 use Rattle.rules_line.specs.declared.conclusion.Premises.{Premises}
 
@@ -178,8 +183,8 @@ module _ (s : List ℕ) (b : Bind) (a : Acting) (c : Conclusion) (p : Premises) 
   line_is = refl
 
   -- each condition, of the holes that it speaks of
-  kept_is : holds r1 ≡ asked s (side_number (row r1).sides) b a c p
-  unfolding asked of_instruction
+  kept_is : holds r1 ≡ asked s (side_of (row r1).sides) b a c p
+  unfolding asked
   kept_is = and_one _ ∙ keeps_is a.operation a.whole a.word a.register ((holes_from (taken_of s b)).tree 0)
       (acting_at s a).formula (acting_at s a).notes ∙ ap (keeps a.operation a.word a.register) (hole_tree s b 0)
 
@@ -200,33 +205,47 @@ module _ (s : List ℕ) (b : Bind) (a : Acting) (c : Conclusion) (p : Premises) 
         note = a.note;
       })))
 
+  same : (f g : ℕ → ℕ → Tree) → ((k o : ℕ) → f k o ≡ g k o) → replace_t f ≡ replace_t g
+  same f g h = ap replace_t (λ q k o. h k o q)
+
+  -- one name alone
+  alone : (n : Name) (by : Replacing) → replace_t (one_name n (stands_for s by).tree) ≡ replace_t (substituted s (one_by n by))
+  unfolding one_by
+  alone n by = same _ _ (λ k o. sym (one_alone s (record { name = n; by = by; second = None }) refl k o))
+
   assign_notes : Notes Opcode.assign
-  unfolding notes_by substitution_of substituted one_by name_code
-  assign_notes = refl
+  unfolding notes_by substitution_of one_name
+  assign_notes = alone (Name.Register a.register) (Formula a.formula nesting)
 
   two_notes : Notes Opcode.assign_two
-  unfolding notes_by substitution_of substituted one_by name_code
-  two_notes = refl
+  unfolding notes_by substitution_of substituted replacing_of
+  two_notes = same _ _ (λ k o. go k o (is_named (Name.Register a.register) k o) (is_named (Name.Register a.noted) k o))
+    where
+      go : (k o : ℕ) (x y : Bool) → cond x (tree_at s a.formula) (cond y (tree_at s a.note) (node k o Tree.none Tree.none))
+          ≡ put_for s (cond x (Some (Formula a.formula nesting)) (cond y (Some (Formula a.note nesting)) None)) k o
+      go k o true y = refl
+      go k o false true = refl
+      go k o false false = refl
 
   pair_notes : (w : ℕ) → T (is_among w Rules.pairs) → Notes w
-  unfolding notes_by substitution_of substituted one_by name_code pair_operation
+  unfolding notes_by substitution_of one_name pair_operation
   pair_notes w h = go (eqb w Opcode.pair_store) (eqb w Opcode.pair_release) (eqb w Opcode.pair_swap) refl refl refl h
     where
       go : (x y v : Bool) → eqb w Opcode.pair_store ≡ x → eqb w Opcode.pair_release ≡ y → eqb w Opcode.pair_swap ≡ v
           → T (x || (y || (v || false))) → Notes w
-      go true y v e d f h = rw (eqb-true w Opcode.pair_store e)
-      go false true v e d f h = rw (eqb-true w Opcode.pair_release d)
-      go false false true e d f h = rw (eqb-true w Opcode.pair_swap f)
+      go true y v e d f h = rw (eqb-true w Opcode.pair_store e) (alone (Name.Register a.noted) (Formula a.note nesting))
+      go false true v e d f h = rw (eqb-true w Opcode.pair_release d) (alone (Name.Register a.noted) (Formula a.note nesting))
+      go false false true e d f h = rw (eqb-true w Opcode.pair_swap f) (alone (Name.Register a.noted) (Formula a.note nesting))
       go false false false e d f h = absurd h
 
-  by_notes_is : Notes a.whole → holds r2 ≡ asked s (side_number (row r2).sides) b a c p
-  unfolding asked of_instruction assigned_by is_with
+  by_notes_is : Notes a.whole → holds r2 ≡ asked s (side_of (row r2).sides) b a c p
+  unfolding asked assigned_by is_with
   by_notes_is e =
       and_one _ ∙ ap (λ (f : Tree → Tree). same_tree (f ((holes_from (taken_of s b)).tree 1)) ((holes_from (taken_of s b)).tree 0)) e
       ∙ ap₂ (λ (u v : Tree). same_tree (replace_t (substituted s (substitution_of a)) v) u) (hole_tree s b 0) (hole_tree s b 1)
 
   -- an operation among 0 and 12 is the whole instruction's
-  assigned_is : allowed r2 ≡ true → holds r2 ≡ asked s (side_number (row r2).sides) b a c p
+  assigned_is : allowed r2 ≡ true → holds r2 ≡ asked s (side_of (row r2).sides) b a c p
   unfolding first_operation
   assigned_is e = by_notes_is (go (eqb a.operation Opcode.assign) (eqb a.operation Opcode.assign_two) refl refl e)
     where
@@ -249,20 +268,24 @@ module _ (s : List ℕ) (b : Bind) (a : Acting) (c : Conclusion) (p : Premises) 
           subst Notes (sym (alone 12 a.whole (λ z. omega arith) (λ z. omega arith) (λ z. omega arith) (sym q ∙ whole))) two_notes
       go false false e₁ e₂ h = absurd (true≢false (sym h))
 
-  loaded_is : holds r3 ≡ asked s (side_number (row r3).sides) b a c p
-  unfolding asked of_instruction loaded_by is_with one_by substituted one_name
-  loaded_is = and_one _ ∙ ap₂ (λ (u v : Tree). same_tree (replace_t (substituted s (one_by false a.register (Word a.word))) v) u)
+  loaded_is : holds r3 ≡ asked s (side_of (row r3).sides) b a c p
+  unfolding asked loaded_by is_with
+  loaded_is =
+      and_one _
+      ∙ ap₂ (λ (u v : Tree). same_tree (replace_t (one_name (Name.Register a.register) (stands_for s (Word a.word)).tree) v) u)
       (hole_tree s b 3) (hole_tree s b 2)
+      ∙ ap (λ (f : Tree → Tree). same_tree (f (tree_of s (hole_of b 2))) (tree_of s (hole_of b 3)))
+      (alone (Name.Register a.register) (Word a.word))
 
-  absent_is : holds r8 ≡ asked s (side_number (row r8).sides) b a c p
-  unfolding asked of_instruction
+  absent_is : holds r8 ≡ asked s (side_of (row r8).sides) b a c p
+  unfolding asked
   absent_is =
       and_one _ ∙ apart_is a.operation a.whole a.word a.register ((holes_from (taken_of s b)).tree 1) (acting_at s a).formula
       (acting_at s a).notes
       ∙ ap (apart a.operation a.word a.register) (hole_tree s b 1)
 
-  new_is : holds r48 ≡ asked s (side_number (row r48).sides) b a c p
-  unfolding asked of_instruction fresh_is sum_is formula_is
+  new_is : holds r48 ≡ asked s (side_of (row r48).sides) b a c p
+  unfolding asked fresh_is sum_is formula_is
   new_is =
       and_one _ ∙ ap (λ (u : Tree). same_tree u (fresh_t (acting_at s a))) (hole_tree s b 0)
       ∙ same_sym (tree_of s (hole_of b 0)) (fresh_t (acting_at s a)) ∙ go (eqb a.operation Opcode.fetch_add)
@@ -279,11 +302,14 @@ module _ (s : List ℕ) (b : Bind) (a : Acting) (c : Conclusion) (p : Premises) 
       go true = refl
       go false = refl
 
-  stored_is : holds r9 ≡ asked s (side_number (row r9).sides) b a c p
-  unfolding asked of_instruction stored_by is_with one_by substituted one_name
+  stored_is : holds r9 ≡ asked s (side_of (row r9).sides) b a c p
+  unfolding asked stored_by is_with
   stored_is =
-      ap₂ (λ (u v : Tree). same_tree (replace_t (substituted s (one_by true a.word (Formula a.formula nesting))) v) u
+      ap₂ (λ (u v : Tree). same_tree (replace_t (one_name (Name.Word a.word) (stands_for s (Formula a.formula nesting)).tree) v) u
       && (not (occurs (flag a.word) [] v) && true)) (hole_tree s b 3) (hole_tree s b 2)
+      ∙ ap (λ (f : Tree → Tree). same_tree (f (tree_of s (hole_of b 2))) (tree_of s (hole_of b 3))
+      && (not (occurs (flag a.word) [] (tree_of s (hole_of b 2))) && true))
+      (alone (Name.Word a.word) (Formula a.formula nesting))
       ∙ go (occurs (flag a.word) [] (tree_of s (hole_of b 2))) _
     where
       go : (o e : Bool) → e && (not o && true) ≡ cond o false e
@@ -292,15 +318,15 @@ module _ (s : List ℕ) (b : Bind) (a : Acting) (c : Conclusion) (p : Premises) 
       go false true = refl
       go false false = refl
 
-  table_asked : holds r20 ≡ asked s (side_number (row r20).sides) b a c p
+  table_asked : holds r20 ≡ asked s (side_of (row r20).sides) b a c p
   unfolding asked
   table_asked = and_one _ ∙ ap₂ table_t (table_is p.count refl few) line_is
 
-  rows_asked : holds r21 ≡ asked s (side_number (row r21).sides) b a c p
+  rows_asked : holds r21 ≡ asked s (side_of (row r21).sides) b a c p
   unfolding asked of_names
   rows_asked = and_one _ ∙ ap₂ (rows_t (setup_in s).range) (hole_tree s b 2) (hole_tree s b 3)
 
-  start_asked : holds r26 ≡ asked s (side_number (row r26).sides) b a c p
+  start_asked : holds r26 ≡ asked s (side_of (row r26).sides) b a c p
   unfolding asked is_start
   start_asked =
       and_one _
@@ -308,15 +334,15 @@ module _ (s : List ℕ) (b : Bind) (a : Acting) (c : Conclusion) (p : Premises) 
       (hole_number s b 4)
       ∙ same_sym (tree_of s (hole_of b 0)) (node (byte Code.const) ((setup_in s).init (number_in b 4)) Tree.none Tree.none)
 
-  cleared_asked : holds r27 ≡ asked s (side_number (row r27).sides) b a c p
+  cleared_asked : holds r27 ≡ asked s (side_of (row r27).sides) b a c p
   unfolding asked
   cleared_asked = and_one _ ∙ ap (cleared (get_or (bodies s) 0 [])) (hole_number s b 4)
 
-  none_asked : true ≡ asked s 0 b a c p
+  none_asked : true ≡ asked s Nothing b a c p
   unfolding asked
   none_asked = refl
 
-  pub sides_are : (n : Rule) → allowed n ≡ true → holds n ≡ asked s (side_number (row n).sides) b a c p
+  pub sides_are : (n : Rule) → allowed n ≡ true → holds n ≡ asked s (side_of (row n).sides) b a c p
   sides_are r1 e = kept_is
   sides_are r2 e = assigned_is e
   sides_are r3 e = loaded_is

@@ -1,21 +1,22 @@
 -- The ways through the side conditions, one law for each.
-use mathlib.Core.Path.{◌≡◌, refl, sym, ◌∙◌, subst}
+use mathlib.Core.Path.{◌≡◌, refl, ap, ◌∙◌}
 use mathlib.Core.Bool.{Bool, true, false, not, cond}
 use mathlib.Core.List.{List, []}
 use Prim.Native.Nat.{ℕ, ◌-◌, ◌≤◌, ◌<◌}
 use lib.ListN.{get_or}
 use borrow.Author.Tests.{lt-ltb, le-ltb, le-leb, lt-leb, eq-eqb, ne_eqb}
+use Rattle.std.specs.Prelude.{Option, None, Some, is_some}
 use Rattle.semantics.specs.Code
 use Rattle.semantics.specs.Code.{byte}
 use Rattle.logic.specs.Opcode
+use Rattle.limits.proofs.BranchTests.{tests}
 use Rattle.limits.specs.Limits.{nesting}
 use Rattle.limits.specs.Numbers.{nth}
 use Rattle.formula.specs.Codes.{part_count}
 use Rattle.formula.specs.Tree.{Tree, parse_tree}
 use Rattle.formula_compare.specs.Same.{same_tree, same_of}
 use Rattle.formula_compare.specs.Replace.{leaf_only, replaced_of}
-use Rattle.formula_compare.specs.declared.same.Same.{Same}
-use Rattle.formula_compare.specs.declared.same.Same.TheVariants.{Yes, No}
+use Rattle.formula_compare.specs.declared.replace.Name.{Name}
 use Rattle.formula_compare.specs.declared.replace.Substitution.{Substitution}
 use Rattle.formula_compare.specs.declared.replace.Replacing.TheVariants.{Formula}
 use Rattle.formula_compare.specs.Occurs.{occurs, register, word_any_role, flag}
@@ -47,8 +48,6 @@ module _ (op x r : ℕ) (u : Tree) where
       unfolding apart
       apart_rest m = rw (← e, h, lt-leb _ _ l, lt-leb _ _ m)
 
-pub ruleset is_absent_branches = (apart_word, apart_plain, apart_result, apart_rest)
-
 module _ (op x r : ℕ) (u : Tree) where
   pub keeps_first : op < Opcode.load → false ≡ keeps op x r u
   unfolding keeps
@@ -73,47 +72,26 @@ module _ (op x r : ℕ) (u : Tree) where
         unfolding keeps
         keeps_rest h = rw (le-ltb _ _ l, lt-leb _ _ m, ne_eqb _ _ n, lt-leb _ _ h)
 
-pub ruleset side_tests_keeping = (hole_is, keeps_first, keeps_load, keeps_branch, keeps_write, keeps_rest)
+-- an answer is there if the test that it comes from is passed
+pub answered : {A : Type 0} (r : Option A) (b : Bool) (x : A) → r ≡ cond b (Some x) None → is_some r ≡ b
+answered r true x e = ap is_some e
+answered r false x e = ap is_some e
 
-pub no_yes : {i j : ℕ} → No ≡ Yes i j → ⊥
-no_yes h = subst is_no h tt
-  where
-    is_no : Same → Type 0
-    is_no No = Unit {0}
-    is_no (Yes i j) = ⊥
-
--- what an answer says of the test that it comes from
-pub answer_no : (b : Bool) (i j : ℕ) → No ≡ cond b (Yes i j) No → false ≡ b
-answer_no true i j h = absurd (no_yes h)
-answer_no false i j h = refl
-
-pub answer_yes : (b : Bool) (i j p q : ℕ) → Yes p q ≡ cond b (Yes i j) No → true ≡ b
-answer_yes true i j p q h = refl
-answer_yes false i j p q h = absurd (no_yes (sym h))
-
-module _ (s : List ℕ) (w : Substitution) (p q : Position) (r : Same)
-    (e : r ≡ replaced_of s w (parse_tree s q.left q.at) (parse_tree s p.left p.at)) where
-  pub with_no : r ≡ No → false ≡ is_with s w (tree_of s p) (tree_of s q)
-  unfolding is_with
-  with_no n = answer_no _ (parse_tree s q.left q.at).end (parse_tree s p.left p.at).end (sym n ∙ e)
-
-  pub with_yes : (i j : ℕ) → r ≡ Yes i j → true ≡ is_with s w (tree_of s p) (tree_of s q)
-  unfolding is_with
-  with_yes i j n = answer_yes _ (parse_tree s q.left q.at).end (parse_tree s p.left p.at).end i j (sym n ∙ e)
-
-pub ruleset is_with_branches = (with_no, with_yes)
+pub with_answer : (s : List ℕ) (w : Substitution) (p q : Position) (r : Option (ℕ × ℕ)) (b : Bool)
+    → r ≡ replaced_of s w (parse_tree s q.left q.at) (parse_tree s p.left p.at) → b ≡ is_some r
+    → b ≡ is_with s w (tree_of s p) (tree_of s q)
+unfolding is_with
+with_answer s w p q r b e d = d ∙ answered r _ _ e
 
 module _ (s : List ℕ) (x f : ℕ) (p q : Position) (o : Bool) (e : o ≡ occurs (flag x) [] (tree_of s q)) where
   pub stored_flag : o ≡ true → false ≡ stored_by s x f (tree_of s p) (tree_of s q)
   unfolding stored_by
   stored_flag h = rw (← e, h)
 
-  pub stored_with : (b : Bool) (w : Substitution) → o ≡ false → w ≡ one_by true x (Formula f nesting)
+  pub stored_with : (b : Bool) (w : Substitution) → o ≡ false → w ≡ one_by (Name.Word x) (Formula f nesting)
       → b ≡ is_with s w (tree_of s p) (tree_of s q) → b ≡ stored_by s x f (tree_of s p) (tree_of s q)
   unfolding stored_by
   stored_with b w h g d = rw (← e, h, ← g) d
-
-pub ruleset is_substituted_branches = (stored_flag, stored_with)
 
 pub number_none : (b : Bind) (j n : ℕ) → n ≡ get_or b.num j 0 → n ≡ 0 → 0 ≡ number_in b j
 unfolding number_in
@@ -123,20 +101,32 @@ pub number_taken : (b : Bind) (j n : ℕ) → n ≡ get_or b.num j 0 → n - 1 �
 unfolding number_in
 number_taken b j n e = rw (← e)
 
-module _ (s h : List ℕ) (x v : ℕ) (p : Position) (r : Same) (e : v ≡ nth (start_values h) x 0)
-    (d : r ≡ same_of (leaf_only (byte Code.const) v) (parse_tree s p.left p.at)) where
-  pub start_no : r ≡ No → false ≡ is_start h x (tree_of s p)
-  unfolding is_start
-  start_no n = rw (← e) (answer_no (same_tree (leaf_only (byte Code.const) v).tree (tree_of s p)) 0 (parse_tree s p.left p.at).end
-      (sym n ∙ d))
-
-  pub start_yes : (i j : ℕ) → r ≡ Yes i j → true ≡ is_start h x (tree_of s p)
-  unfolding is_start
-  start_yes i j n = rw (← e) (answer_yes (same_tree (leaf_only (byte Code.const) v).tree (tree_of s p)) 0
-      (parse_tree s p.left p.at).end i j (sym n ∙ d))
+pub start_answer : (s h : List ℕ) (x v : ℕ) (p : Position) (r : Option (ℕ × ℕ)) (b : Bool) → v ≡ nth (start_values h) x 0
+    → r ≡ same_of (leaf_only (byte Code.const) v) (parse_tree s p.left p.at) → b ≡ is_some r → b ≡ is_start h x (tree_of s p)
+unfolding is_start
+start_answer s h x v p r b e f d = rw (← e) (d ∙ answered r _ _ f)
 
 pub const_parts : part_count (byte Code.const) ≡ 0
 unfolding part_count
 const_parts = refl
 
-pub ruleset side_tests_starting = (number_none, number_taken, start_no, start_yes, const_parts)
+pub ruleset side_tests_branches = (
+  hole_is,
+  apart_word,
+  apart_plain,
+  apart_result,
+  apart_rest,
+  keeps_first,
+  keeps_load,
+  keeps_branch,
+  keeps_write,
+  keeps_rest,
+  with_answer,
+  stored_flag,
+  stored_with,
+  number_none,
+  number_taken,
+  start_answer,
+  const_parts,
+  tests,
+)

@@ -1,19 +1,20 @@
 -- What the lines of a certificate conclude, their formulas by position.
-use Rattle.std.specs.Prelude.{cond, List, ℕ, eqb}
+use Rattle.std.specs.Prelude.{cond, List, ℕ}
 use Rattle.image_frames.specs.Records.{bodies}
 use Rattle.image_header.specs.declared.sizes.Sizes.{Sizes}
 use Rattle.image_header.specs.Instruction.{pair_operation}
 use Rattle.image_bodies.specs.RecordPlaces.{instruction_of}
-use Rattle.formula_trees.specs.StatementTree.{hoare, paired}
 use Rattle.image_meaning.specs.Certificate.{line_body}
 use Rattle.image_access.specs.AccessPlaces.{line_in}
 use Rattle.image_access.specs.declared.line.Line.{Line}
-use Rattle.rules_table.specs.RuleTable.{rule_row}
+use Rattle.rules_table.specs.RuleTable.{same_form, rule_row}
+use Rattle.rules_table.specs.declared.rule.Form.{Form}
+use Rattle.rules_table.specs.declared.rule.Form.TheVariants.{Triple, Pair}
 use Rattle.rules_line.specs.declared.conclusion.Conclusion.{Conclusion}
 
 -- the form is that of the line's rule; a line of rule 50 at a point that has no pair counts as an ordinary triple
-unfoldable pub spoken_form : ℕ → ℕ → ℕ
-spoken_form f op = cond (eqb f paired) (cond (pair_operation op) paired hoare) f
+unfoldable pub spoken_form : Form → ℕ → Form
+spoken_form f op = cond (same_form f Pair) (cond (pair_operation op) Pair Triple) f
 
 -- what the line concludes, given the operation at its thread and point
 unfoldable pub conclusion_by : Line → ℕ → Conclusion

@@ -1,14 +1,14 @@
 -- What a line's premises conclude, and whether they are the premises that its rule asks for.
-use Rattle.std.specs.Prelude.{Bool, true, false, cond, List, [], ◌∷◌, ℕ, eqb, ltb, leb, get_or}
+use Rattle.std.specs.Prelude.{Bool, true, false, cond, Option, None, Some, List, [], ◌∷◌, ℕ, eqb, ltb, leb, get_or}
 use Rattle.limits.specs.Limits as Limits
 use Rattle.image_frames.specs.Records.{bodies}
 use Rattle.image_header.specs.declared.sizes.Sizes.{Sizes}
 use Rattle.image_bodies.specs.Line as Lines
 use Rattle.formula_match.specs.declared.bind.Bind.{Bind}
 use Rattle.formula_match.specs.declared.matching_whole.Whole.{Whole}
-use Rattle.formula_trees.specs.StatementTree.{implication}
 use Rattle.image_meaning.specs.Certificate.{line_body}
-use Rattle.rules_table.specs.RuleTable.{any_implications}
+use Rattle.rules_table.specs.RuleTable.{any_implications, same_form}
+use Rattle.rules_table.specs.declared.rule.Form.TheVariants.{Implication}
 use Rattle.rules_table.specs.declared.rule.Rule.{Rule}
 use Rattle.rules_line.specs.Conclusion.{no_conclusion, conclusion_at, match_from}
 use Rattle.rules_line.specs.LineConclusion.{conclusion_of}
@@ -30,7 +30,7 @@ premises_of s z n count =
 
 -- premise j is an implication, or there is no such premise
 unfoldable pub is_implication_at : Premises → ℕ → Bool
-is_implication_at p j = cond (leb p.count j) true (eqb (conclusion_at p j).form implication)
+is_implication_at p j = cond (leb p.count j) true (same_form (conclusion_at p j).form Implication)
 
 -- rule 20: there are at most four premises, and all are implications
 unfoldable pub all_implications : Premises → Bool
@@ -39,8 +39,7 @@ all_implications p =
     (cond (is_implication_at p 0) (cond (is_implication_at p 1) (cond (is_implication_at p 2) (is_implication_at p 3) false) false) false)
 
 -- the match of the premises with the templates from i on: as many as the rule has, each of its form; of rule 20 any implications
-unfoldable pub match_premises : List ℕ → List ℕ → ℕ → Rule → ℕ → ℕ → Premises → Bind → Whole
+unfoldable pub match_premises : List ℕ → List ℕ → ℕ → Rule → ℕ → ℕ → Premises → Bind → Option Whole
 match_premises s t i w thread point p b =
-    cond (eqb w.premises any_implications) (record { ok = all_implications p; tpl = i; bind = b })
-    (cond (eqb w.premises p.count) (match_from s t thread point p p.count i w.forms 0 b)
-    (record { ok = false; tpl = i; bind = b }))
+    cond (eqb w.premises any_implications) (cond (all_implications p) (Some (record { tpl = i; bind = b })) None)
+    (cond (eqb w.premises p.count) (match_from s t thread point p p.count i w.forms 0 b) None)

@@ -1,16 +1,16 @@
 -- Whether a line is an instance of its rule, its formulas by position. s: the image; t: the templates.
-use Rattle.std.specs.Prelude.{Bool, true, false, cond, List, ℕ, eqb}
+use Rattle.std.specs.Prelude.{Bool, true, false, cond, Option, None, Some, List, ℕ}
 use Rattle.formula.specs.Codes.{member}
 use Rattle.image_frames.specs.Records.{bodies}
 use Rattle.image_header.specs.declared.sizes.Sizes.{Sizes}
 use Rattle.image_bodies.specs.RecordPlaces.{instruction_of}
 use Rattle.formula_match.specs.declared.bind.Bind.{Bind}
 use Rattle.formula_match.specs.declared.matching_whole.Whole.{Whole}
-use Rattle.formula_trees.specs.StatementTree.{hoare, paired}
 use Rattle.image_access.specs.AccessPlaces.{acting_of}
 use Rattle.image_access.specs.declared.line.Line.{Line}
 use Rattle.image_access.specs.declared.acting_instruction.Acting.{Acting}
-use Rattle.rules_table.specs.RuleTable.{rule_row}
+use Rattle.rules_table.specs.RuleTable.{same_form, rule_row}
+use Rattle.rules_table.specs.declared.rule.Form.TheVariants.{Triple, Pair}
 use Rattle.rules_table.specs.declared.rule.Rule.{Rule}
 use Rattle.rules_line.specs.Conclusion.{match_conclusion}
 use Rattle.rules_line.specs.LineConclusion.{conclusion_by, line_at}
@@ -22,19 +22,20 @@ use Rattle.rules_line.specs.declared.conclusion.Premises.{Premises}
 
 -- the operation is one that the rule allows: for triples that of the first half, for rule 50 that of the whole pair
 unfoldable pub is_allowed : Rule → Acting → Bool
-is_allowed w a = cond (eqb w.form hoare) (member w.operations a.operation)
-    (cond (eqb w.form paired) (member w.operations a.whole) true)
+is_allowed w a = cond (same_form w.form Triple) (member w.operations a.operation)
+    (cond (same_form w.form Pair) (member w.operations a.whole) true)
 
 -- what remains once the templates are matched: the operation and the side condition
 unfoldable pub rest_at : List ℕ → Rule → Acting → Conclusion → Premises → Bind → Bool
 rest_at s w a c p b = cond (is_allowed w a) (asked s w.side b a c p) false
 
 -- the match succeeds, and then f holds of it
-abbrev pub then_ask : Whole → (Whole → Bool) → Bool
-then_ask m f = cond m.ok (f m) false
+abbrev pub then_ask : Option Whole → (Whole → Bool) → Bool
+then_ask None f = false
+then_ask (Some m) f = f m
 
 -- the match of the line's conclusion with its rule's templates, with the holes that its instruction fills
-unfoldable pub line_match : List ℕ → List ℕ → Rule → Line → Acting → Conclusion → Whole
+unfoldable pub line_match : List ℕ → List ℕ → Rule → Line → Acting → Conclusion → Option Whole
 line_match s t w l a c = match_conclusion s t w.template w.form c.thread c.point c
     (preset_at l.thread a.word a.register a.formula)
 

@@ -1,5 +1,5 @@
 -- The tests that side conditions are made of, on the trees that fill the holes.
-use Rattle.std.specs.Prelude.{Bool, true, false, not, cond, List, [], ℕ, ◌-◌, get_or, eqb, ltb, leb}
+use Rattle.std.specs.Prelude.{Bool, true, false, not, cond, None, List, [], ℕ, ◌-◌, get_or, eqb, ltb, leb}
 use Rattle.semantics.specs.Code
 use Rattle.semantics.specs.Code.{byte}
 use Rattle.logic.specs.Opcode
@@ -11,7 +11,8 @@ use Rattle.formula_compare.specs.Same.{same_tree}
 use Rattle.formula_compare.specs.Replace.{replace_t, substituted}
 use Rattle.formula_compare.specs.declared.replace.Substitution.{Substitution}
 use Rattle.formula_compare.specs.declared.replace.Replacing.{Replacing}
-use Rattle.formula_compare.specs.declared.replace.Replacing.TheVariants.{Formula, Word}
+use Rattle.formula_compare.specs.declared.replace.Replacing.TheVariants.{Formula}
+use Rattle.formula_compare.specs.declared.replace.Name.{Name}
 use Rattle.formula_compare.specs.Occurs.{occurs, register, word_any_role, flag}
 use Rattle.formula_match.specs.declared.bind.Bind.{Bind}
 use Rattle.rules_line.specs.declared.side_tests.Position.{Position}
@@ -44,8 +45,8 @@ keeps op x r u =
     (cond (leb op Opcode.fetch_add) (apart op x r u) false)))
 
 -- the substitution for one name alone, a word or a register
-unfoldable pub one_by : Bool → ℕ → Replacing → Substitution
-one_by word number by = record { word = word; number = number; by = by; two = false; second = 0; with = Word 0 }
+unfoldable pub one_by : Name → Replacing → Substitution
+one_by name by = record { name = name; by = by; second = None }
 
 -- u is v after the substitution
 unfoldable pub is_with : List ℕ → Substitution → Tree → Tree → Bool
@@ -53,7 +54,7 @@ is_with s w u v = same_tree (replace_t (substituted s w) v) u
 
 -- rule 9: u is v with the word replaced by the formula at position f, and neither flag of the word is in v
 unfoldable pub stored_by : List ℕ → ℕ → ℕ → Tree → Tree → Bool
-stored_by s x f u v = cond (occurs (flag x) [] v) false (is_with s (one_by true x (Formula f nesting)) u v)
+stored_by s x f u v = cond (occurs (flag x) [] v) false (is_with s (one_by (Name.Word x) (Formula f nesting)) u v)
 
 -- rule 26: u is the constant that the header's body h gives as the word's start value
 unfoldable pub is_start : List ℕ → ℕ → Tree → Bool

@@ -1,55 +1,46 @@
 // What a line's premises conclude, and whether they are the premises that its rule asks for.
+#![tactic(auto, using(crate::proofs::PremiseBranches::premises_branches))]
+
 ghost use Rattle.std.specs.Prelude.{◌≡◌};
-ghost use Rattle.image_index.specs.IndexTable.{index_of};
+ghost use Rattle.rules_line.specs.Conclusion.{match_from};
 ghost use Rattle.rules_line.specs.Premises.{premise_conclusion, premises_of, is_implication_at, all_implications, match_premises};
 
-use crate::conclusion::{Conclusion, NO_CONCLUSION, Premises, conclusion_at, match_from};
+use crate::conclusion::{Conclusion, NO_CONCLUSION, Premises, conclusion_at, match_conclusion};
 use crate::line_conclusion::conclusion_of;
 use formula_match::bind::Bind;
 use formula_match::matching_whole::Whole;
 use image_access::line::premise_of;
 use image_header::sizes::Sizes;
+use image_index::indexed::Indexed;
 use limits::Limits;
 use rules_table::rule::{Form, Rule, Rules};
 
 // What premise `j` of line `number` concludes; NO_CONCLUSION if the line, which has `count` premises, has no such premise.
-fn premise_conclusion<'a, 'b>(
-    image: &'a [u8],
-    index: &'b [usize],
+// Image, sizes and number stay apart: `Counted` would bring totals, which the pass over the lines neither counts nor reads.
+fn premise_conclusion(
+    image: &Indexed,
     sizes: Sizes,
     number: usize,
     count: u8,
     j: usize,
 ) -> Conclusion
-    requires { index.now ≡ index_of image.now }
     ensures { result ≡ premise_conclusion image.now sizes number count j }
 {
-    if (count as usize) <= j {
-        return NO_CONCLUSION;
+    if j < usize::from(count) {
+        conclusion_of(image, sizes, premise_of(image, sizes, number, j))
+    } else {
+        NO_CONCLUSION
     }
-    conclusion_of(
-        image,
-        index,
-        sizes,
-        premise_of(image, index, sizes, number, j),
-    )
 }
 
 // What the premises of line `number` conclude; `count` is how many it has.
-pub fn premises_of<'a, 'b>(
-    image: &'a [u8],
-    index: &'b [usize],
-    sizes: Sizes,
-    number: usize,
-    count: u8,
-) -> Premises
-    requires { index.now ≡ index_of image.now }
+pub fn premises_of(image: &Indexed, sizes: Sizes, number: usize, count: u8) -> Premises
     ensures { result ≡ premises_of image.now sizes number count }
 {
-    let a = premise_conclusion(image, index, sizes, number, count, 0);
-    let b = premise_conclusion(image, index, sizes, number, count, 1);
-    let c = premise_conclusion(image, index, sizes, number, count, 2);
-    let d = premise_conclusion(image, index, sizes, number, count, 3);
+    let a = premise_conclusion(image, sizes, number, count, 0);
+    let b = premise_conclusion(image, sizes, number, count, 1);
+    let c = premise_conclusion(image, sizes, number, count, 2);
+    let d = premise_conclusion(image, sizes, number, count, 3);
     Premises {
         count,
         conclusions: [a, b, c, d],
@@ -57,31 +48,56 @@ pub fn premises_of<'a, 'b>(
 }
 
 // Premise `j` is an implication, or there is no such premise.
-fn is_implication(premises: Premises, j: usize) -> bool
-    ensures { result ≡ is_implication_at premises j }
+fn is_implication(premises: &Premises, j: usize) -> bool
+    ensures { result ≡ is_implication_at premises.now j }
 {
-    if (premises.count as usize) <= j {
-        return true;
-    }
-    let c = conclusion_at(premises, j);
-    c.form == Form::IMPLICATION
+    usize::from(premises.count) <= j || conclusion_at(premises, j).form == Form::Implication
 }
 
 // Rule 20: there are at most four premises, and all are implications.
-fn all_implications(premises: Premises) -> bool
-    ensures { result ≡ all_implications premises }
+fn all_implications(premises: &Premises) -> bool
+    ensures { result ≡ all_implications premises.now }
 {
-    if Limits::PREMISES < (premises.count as usize) {
-        return false;
+    usize::from(premises.count) <= Limits::PREMISES
+        && is_implication(premises, 0)
+        && is_implication(premises, 1)
+        && is_implication(premises, 2)
+        && is_implication(premises, 3)
+}
+
+// Matches the premises against the templates from `i` on, each against those that follow the ones of the premise before; `forms` has their
+// forms, two bits each from the lowest.
+// Image, templates and place stay apart, as in `match_conclusion`: the place alone changes from premise to premise.
+#[tactic(auto, using(crate::proofs::ConclusionBranches::match_from_branches))]
+fn match_listed(
+    image: &[u8],
+    templates: &[u8],
+    i: usize,
+    forms: u8,
+    thread: usize,
+    point: usize,
+    premises: &Premises,
+    bind: Bind,
+) -> Option<Whole>
+    ensures { result
+        ≡ match_from image.now templates.now thread point premises.now premises.now.count i forms 0 bind }
+{
+    let mut m = Whole { tpl: i, bind };
+    let mut rest = forms;
+    for j in 0..usize::from(premises.count) {
+        m = match_conclusion(
+            image,
+            templates,
+            m.tpl,
+            Form::from_bits(rest % 4),
+            thread,
+            point,
+            conclusion_at(premises, j),
+            m.bind,
+        )?;
+        rest /= 4;
     }
-    if is_implication(premises, 0) {
-        if is_implication(premises, 1) {
-            if is_implication(premises, 2) {
-                return is_implication(premises, 3);
-            }
-        }
-    }
-    false
+    Some(m)
 }
 
 // Matches the premises against the templates from `i` on: as many as the rule has, each of its form; of rule 20 any implications.
@@ -92,36 +108,22 @@ pub fn match_premises(
     rule: Rule,
     thread: usize,
     point: usize,
-    premises: Premises,
+    premises: &Premises,
     bind: Bind,
-) -> Whole
-    ensures { result ≡ match_premises image.now templates.now i rule thread point premises bind }
+) -> Option<Whole>
+    ensures { result ≡ match_premises image.now templates.now i rule thread point premises.now bind }
 {
     if rule.premises == Rules::IMPLICATIONS {
-        return Whole {
-            ok: all_implications(premises),
-            tpl: i,
-            bind: bind,
+        return if all_implications(premises) {
+            Some(Whole { tpl: i, bind })
+        } else {
+            None
         };
     }
-    let count = premises.count;
-    if rule.premises == count {
-        return match_from(
-            image,
-            templates,
-            i,
-            rule.forms,
-            thread,
-            point,
-            premises,
-            0,
-            count as usize,
-            bind,
-        );
+    if rule.premises != premises.count {
+        return None;
     }
-    Whole {
-        ok: false,
-        tpl: i,
-        bind: bind,
-    }
+    match_listed(
+        image, templates, i, rule.forms, thread, point, premises, bind,
+    )
 }

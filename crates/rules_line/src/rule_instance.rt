@@ -1,6 +1,7 @@
 // Whether a line is an instance of its rule.
+#![tactic(auto, using(crate::proofs::InstanceBranches::rule_instance_branches))]
+
 ghost use Rattle.std.specs.Prelude.{◌≡◌};
-ghost use Rattle.image_index.specs.IndexTable.{index_of};
 ghost use Rattle.rules_line.specs.RuleInstance.{is_allowed, rest_at, line_match, fits_row, fits_line};
 
 use crate::conclusion::{Conclusion, Premises, match_conclusion};
@@ -14,38 +15,32 @@ use formula_match::matching_whole::Whole;
 use image_access::acting_instruction::{Acting, acting_of};
 use image_access::line::{Line, line_of};
 use image_header::sizes::Sizes;
+use image_index::indexed::Indexed;
 use rules_table::rule::{Form, Rule, rule_at};
 
 // The rule allows the operation: for triples that of the first half, for rule 50 that of the whole pair. Other rules ask for none.
 fn is_allowed(rule: Rule, acting: Acting) -> bool
     ensures { result ≡ is_allowed rule acting }
 {
-    if rule.form == Form::TRIPLE {
-        return contains(rule.operations as u32, acting.operation);
+    match rule.form {
+        Form::Triple => contains(u32::from(rule.operations), acting.operation),
+        Form::Pair => contains(u32::from(rule.operations), acting.whole),
+        Form::Inclusion | Form::Implication | Form::Unlisted => true,
     }
-    if rule.form == Form::PAIR {
-        return contains(rule.operations as u32, acting.whole);
-    }
-    true
 }
 
 // What remains once the templates are matched: the operation and the side condition.
-fn fits_rest<'a, 'b>(
-    image: &'a [u8],
-    index: &'b [usize],
+fn fits_rest(
+    image: &Indexed,
     rule: Rule,
     acting: Acting,
     conclusion: Conclusion,
-    premises: Premises,
+    premises: &Premises,
     bind: Bind,
 ) -> bool
-    requires { index.now ≡ index_of image.now }
-    ensures { result ≡ rest_at image.now rule acting conclusion premises bind }
+    ensures { result ≡ rest_at image.now rule acting conclusion premises.now bind }
 {
-    if is_allowed(rule, acting) {
-        return is_asked(image, index, rule.side, bind, acting, conclusion, premises);
-    }
-    false
+    is_allowed(rule, acting) && is_asked(image, rule.side, bind, acting, conclusion, premises)
 }
 
 // Matches the line's conclusion against its rule's templates, with the holes that its instruction fills.
@@ -56,69 +51,56 @@ fn match_line(
     line: Line,
     acting: Acting,
     conclusion: Conclusion,
-) -> Whole
+) -> Option<Whole>
     ensures { result ≡ line_match image.now templates.now rule line acting conclusion }
 {
-    let b = preset_at(line.thread, acting.word, acting.register, acting.formula);
     match_conclusion(
         image,
         templates,
-        rule.template as usize,
+        usize::from(rule.template),
         rule.form,
         conclusion.thread,
         conclusion.point,
         conclusion,
-        b,
+        preset_at(line.thread, acting.word, acting.register, acting.formula),
     )
 }
 
 // The line is an instance of its rule: its conclusion matches, then its premises, then operation and side condition are right.
-fn fits_row<'a, 'b, 'c>(
-    image: &'a [u8],
-    index: &'b [usize],
-    templates: &'c [u8],
+fn fits_row(
+    image: &Indexed,
+    templates: &[u8],
     line: Line,
     acting: Acting,
-    premises: Premises,
+    premises: &Premises,
 ) -> bool
-    requires { index.now ≡ index_of image.now }
-    ensures { result ≡ fits_row image.now templates.now line acting premises }
+    ensures { result ≡ fits_row image.now templates.now line acting premises.now }
 {
+    let bytes = image.bytes();
     let rule = rule_at(line.rule);
     let c = conclusion_by(line, acting.whole);
-    let m = match_line(image, templates, rule, line, acting, c);
-    if m.ok {
-        let n = m.bind;
-        let q = match_premises(
-            image, templates, m.tpl, rule, c.thread, c.point, premises, n,
-        );
-        if q.ok {
-            let d = q.bind;
-            return fits_rest(image, index, rule, acting, c, premises, d);
-        }
-    }
-    false
+    let Some(m) = match_line(bytes, templates, rule, line, acting, c) else {
+        return false;
+    };
+    let Some(q) = match_premises(
+        bytes, templates, m.tpl, rule, c.thread, c.point, premises, m.bind,
+    ) else {
+        return false;
+    };
+    fits_rest(image, rule, acting, c, premises, q.bind)
 }
 
 // Whether line `number` is an instance of its rule.
-pub fn fits_line<'a, 'b, 'c>(
-    image: &'a [u8],
-    index: &'b [usize],
-    templates: &'c [u8],
-    sizes: Sizes,
-    number: usize,
-) -> bool
-    requires { index.now ≡ index_of image.now }
+pub fn fits_line(image: &Indexed, templates: &[u8], sizes: Sizes, number: usize) -> bool
     ensures { result ≡ fits_line image.now templates.now sizes number }
 {
-    let line = line_of(image, index, sizes, number);
-    let a = acting_of(
+    let line = line_of(image, sizes, number);
+    let acting = acting_of(
         image,
-        index,
         sizes,
-        line.thread as usize,
-        line.point as usize,
+        usize::from(line.thread),
+        usize::from(line.point),
     );
-    let premises = premises_of(image, index, sizes, number, line.count);
-    fits_row(image, index, templates, line, a, premises)
+    let premises = premises_of(image, sizes, number, line.count);
+    fits_row(image, templates, line, acting, &premises)
 }

@@ -1,11 +1,12 @@
 // The tests that side conditions are made of, on the formulas that fill the holes.
+#![tactic(auto, using(crate::proofs::SideTestBranches::side_tests_branches))]
+
 ghost use Rattle.std.specs.Prelude.{◌≡◌, ◌<◌};
 ghost use Rattle.rules_line.specs.SideTests.{hole_of, number_in, tree_of, apart, keeps, one_by, is_with, stored_by, is_start};
 
 use formula::code::Code;
 use formula_compare::has::{has_flag, has_register, has_word};
-use formula_compare::replace::{Replacing, Substitution, leaf_stands, replaced_at};
-use formula_compare::same::Same;
+use formula_compare::replace::{Name, Replacing, Substitution, leaf_stands, replaced_at};
 use formula_match::bind::Bind;
 use image_header::header::start_value;
 use image_header::instruction::Instruction;
@@ -19,13 +20,14 @@ pub struct Position {
 }
 
 // The position of the formula in hole `j`; its nesting is 0 where the hole has taken none.
+// `j < 5` stays a clause: each caller names a hole by a constant, for which the bound is found at once.
 pub fn hole_of(bind: Bind, j: usize) -> Position
     requires { j < 5 }
     ensures { result ≡ hole_of bind j }
 {
     Position {
         at: bind.at[j],
-        left: bind.left[j] as usize,
+        left: usize::from(bind.left[j]),
     }
 }
 
@@ -33,16 +35,10 @@ pub fn hole_of(bind: Bind, j: usize) -> Position
 pub fn is_absent(image: &[u8], operation: u8, word: u8, register: u8, position: Position) -> bool
     ensures { result ≡ apart operation word register (tree_of image.now position) }
 {
-    if has_word(image, position.at, position.left, word) {
-        return false;
-    }
-    if operation <= Instruction::BRANCH {
-        return true;
-    }
-    if operation <= Instruction::FETCH_ADD {
-        return !has_register(image, position.at, position.left, register);
-    }
-    true
+    !has_word(image, position.at, position.left, word)
+        && (operation <= Instruction::BRANCH
+            || Instruction::FETCH_ADD < operation
+            || !has_register(image, position.at, position.left, register))
 }
 
 // Rule 1: a load preserves P if its register does not occur in P; a store or swap, if its word and its result register do not.
@@ -65,16 +61,14 @@ pub fn is_preserved(image: &[u8], operation: u8, word: u8, register: u8, positio
 }
 
 // The substitution for one name alone, a word or a register.
-pub fn one_name(word: bool, number: u8, replacing: Replacing) -> Substitution
-    ensures { result ≡ one_by word number replacing }
+#[tactic(auto, unfolding(crate::specs::SideTests::one_by))]
+pub fn one_name(name: Name, by: Replacing) -> Substitution
+    ensures { result ≡ one_by name by }
 {
     Substitution {
-        word,
-        number,
-        by: replacing,
-        two: false,
-        second: 0,
-        with: Replacing::Word(0),
+        name,
+        by,
+        second: None,
     }
 }
 
@@ -88,17 +82,15 @@ pub fn is_with(
     ensures { result ≡ is_with image.now substitution (tree_of image.now position)
         (tree_of image.now other) }
 {
-    match replaced_at(
+    replaced_at(
         image,
         other.at,
         other.left,
         position.at,
         position.left,
         substitution,
-    ) {
-        Same::No => false,
-        Same::Yes(_, _) => true,
-    }
+    )
+    .is_some()
 }
 
 // Rule 9: the test at `position` is the one at `other` with the word replaced by the formula, and neither flag of the word is in that one.
@@ -112,11 +104,11 @@ pub fn is_substituted(
     ensures { result ≡ stored_by image.now word formula (tree_of image.now position)
         (tree_of image.now other) }
 {
-    if has_flag(image, other.at, other.left, word) {
-        return false;
-    }
-    let substitution = one_name(true, word, Replacing::Formula(formula, Limits::NESTING));
-    is_with(image, position, other, substitution)
+    let substitution = one_name(
+        Name::Word(word),
+        Replacing::Formula(formula, Limits::NESTING),
+    );
+    !has_flag(image, other.at, other.left, word) && is_with(image, position, other, substitution)
 }
 
 // The number in hole `j`; 0 where the hole has taken none.
@@ -124,25 +116,19 @@ pub fn number_in(bind: Bind, j: usize) -> usize
     requires { j < 5 }
     ensures { result ≡ number_in bind j }
 {
-    let n = bind.num[j] as usize;
-    if n == 0 {
-        return 0;
-    }
-    n - 1
+    usize::from(bind.num[j]).saturating_sub(1)
 }
 
 // Rule 26: the formula is the constant that the header gives as the word's start value.
 pub fn is_start(image: &[u8], header: &[u8], position: Position, word: usize) -> bool
     ensures { result ≡ is_start header.now word (tree_of image.now position) }
 {
-    match leaf_stands(
+    leaf_stands(
         image,
         Code::CONST,
         start_value(header, word),
         position.at,
         position.left,
-    ) {
-        Same::No => false,
-        Same::Yes(_, _) => true,
-    }
+    )
+    .is_some()
 }

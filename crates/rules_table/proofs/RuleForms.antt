@@ -1,38 +1,95 @@
 -- The form of a rule's lines goes by its number.
 use Prim.Native.Nat.{ℕ, zero, suc, ◌≤◌, ◌<◌}
-use mathlib.Core.Path.{◌≡◌, refl, ap, ◌∙◌}
+use mathlib.Core.Path.{◌≡◌, refl, ap, ap₂, sym, ◌∙◌}
 use mathlib.Core.Bool.{Bool, true, false, cond, ◌&&◌}
 use mathlib.Core.List.{List, [], ◌∷◌}
 use native.Mathlib.Omega.{arith}
 use lib.Dec.{T, eqb, ltb, leb, eqb→eq}
-use lib.ListN.{length, get_or}
+use lib.ListN.{length, get_or, get_or-eq_default}
 use borrow.Author.Tests.{ne_eqb, lt-leb, le-ltb, ltb-true, ltb-false}
+use Rattle.std.proofs.lemmas.Bool.Decides.{nat_tests}
 use Rattle.semantics.proofs.Base.{and_left, and_right}
-use Rattle.rules_table.specs.RuleTable.{unlisted_form, rows, unlisted, rule_row}
+use denote.Enum.Bare.{sameb}
+use denote.Enum.Declared.{tag_of}
+use Rattle.rules_table.specs.contracts.rule.Form.{the_type}
+use Rattle.rules_table.specs.declared.rule.Side.{Side}
+use Rattle.rules_table.specs.declared.rule.Side.TheVariants.{Nothing, Kept, Assigned, Loaded, WordAbsent, Stored, ByRows, ByTable, StartValue, NewValue, StartsAtZero}
+use Rattle.rules_table.specs.TableTest.{same_side}
+use Rattle.rules_table.specs.RuleTable.{form_number, form_numbered, same_form, side_number, rows, unlisted, rule_row}
+use Rattle.rules_table.specs.declared.rule.Form.{Form}
+use Rattle.rules_table.specs.declared.rule.Form.TheVariants.{Inclusion, Implication, Triple, Pair, Unlisted}
 use Rattle.rules_table.specs.declared.rule.Rule.{Rule}
 use Rattle.rules_table.proofs.TableRows.{row_past}
 
-unfoldable pub form_by : ℕ → ℕ
+unfoldable pub form_by : ℕ → Form
 form_by n =
-    cond (eqb n 0) unlisted_form
-    (cond (leb n 16) 2
-    (cond (ltb n 20) unlisted_form
-    (cond (leb n 27) 1
-    (cond (ltb n 30) unlisted_form
-    (cond (leb n 46) 0
-    (cond (ltb n 50) 2
-    (cond (eqb n 50) 3 unlisted_form)))))))
+    cond (eqb n 0) Unlisted
+    (cond (leb n 16) Triple
+    (cond (ltb n 20) Unlisted
+    (cond (leb n 27) Implication
+    (cond (ltb n 30) Unlisted
+    (cond (leb n 46) Inclusion
+    (cond (ltb n 50) Triple
+    (cond (eqb n 50) Pair Unlisted)))))))
 
-abbrev agree : (ℕ → ℕ) → List Rule → Bool
+form_back : (f : Form) → form_numbered (form_number f) ≡ f
+form_back Inclusion = refl
+form_back Implication = refl
+form_back Triple = refl
+form_back Pair = refl
+form_back Unlisted = refl
+
+-- forms are told apart by their numbers
+pub form_one : (f g : Form) → form_number f ≡ form_number g → f ≡ g
+form_one f g e = sym (form_back f) ∙ ap form_numbered e ∙ form_back g
+
+pub same_forms : (f g : Form) → T (same_form f g) → f ≡ g
+same_forms f g h = form_one f g (eqb→eq (form_number f) (form_number g) h)
+
+abbrev side_numbered : ℕ → Side
+side_numbered n = get_or (Nothing ∷ Kept ∷ Assigned ∷ Loaded ∷ WordAbsent ∷ Stored ∷ ByRows ∷ ByTable ∷ StartValue ∷ NewValue ∷ []) n StartsAtZero
+
+side_back : (a : Side) → side_numbered (side_number a) ≡ a
+side_back Nothing = refl
+side_back Kept = refl
+side_back Assigned = refl
+side_back Loaded = refl
+side_back WordAbsent = refl
+side_back Stored = refl
+side_back ByRows = refl
+side_back ByTable = refl
+side_back StartValue = refl
+side_back NewValue = refl
+side_back StartsAtZero = refl
+
+-- side conditions, likewise
+pub same_sides : (a b : Side) → T (same_side a b) → a ≡ b
+same_sides a b h = sym (side_back a) ∙ ap side_numbered (eqb→eq (side_number a) (side_number b) h) ∙ side_back b
+
+-- the test of the code for two forms is this one
+tag_number : (f : Form) → tag_of the_type f ≡ form_number f
+tag_number Inclusion = refl
+tag_number Implication = refl
+tag_number Triple = refl
+tag_number Pair = refl
+tag_number Unlisted = refl
+
+pub form_flag : (f g : Form) → sameb the_type f g ≡ same_form f g
+form_flag f g = ap₂ eqb (tag_number f) (tag_number g)
+
+pub numbered_past : (n : ℕ) → 4 ≤ n → Unlisted ≡ form_numbered n
+numbered_past n h = sym (get_or-eq_default (Inclusion ∷ Implication ∷ Triple ∷ Pair ∷ []) Unlisted h)
+
+abbrev agree : (ℕ → Form) → List Rule → Bool
 agree f [] = true
-agree f (r ∷ l) = eqb (f 0) r.form && agree (λ n. f (suc n)) l
+agree f (r ∷ l) = same_form (f 0) r.form && agree (λ n. f (suc n)) l
 
-agree_at : (f : ℕ → ℕ) (l : List Rule) → T (agree f l) → (n : ℕ) → n < length l → f n ≡ (get_or l n unlisted).form
+agree_at : (f : ℕ → Form) (l : List Rule) → T (agree f l) → (n : ℕ) → n < length l → f n ≡ (get_or l n unlisted).form
 agree_at f [] h n b = absurd (omega arith)
-agree_at f (r ∷ l) h zero b = eqb→eq (f 0) r.form (and_left (eqb (f 0) r.form) (agree (λ n. f (suc n)) l) h)
-agree_at f (r ∷ l) h (suc n) b = agree_at (λ n. f (suc n)) l (and_right (eqb (f 0) r.form) (agree (λ n. f (suc n)) l) h) n (omega arith)
+agree_at f (r ∷ l) h zero b = same_forms (f 0) r.form (and_left (same_form (f 0) r.form) (agree (λ n. f (suc n)) l) h)
+agree_at f (r ∷ l) h (suc n) b = agree_at (λ n. f (suc n)) l (and_right (same_form (f 0) r.form) (agree (λ n. f (suc n)) l) h) n (omega arith)
 
-past : (n : ℕ) → 51 ≤ n → form_by n ≡ unlisted_form
+past : (n : ℕ) → 51 ≤ n → form_by n ≡ Unlisted
 unfolding form_by
 past n h =
     let a : n ≡ 0 → ⊥ = omega arith in
@@ -56,5 +113,7 @@ form_is n = go (ltb n 51) refl
     go true e = agree_at form_by rows tt n (ltb-true n 51 e)
     go false e = past n (ltb-false n 51 e) ∙ ap (λ (r : Rule). r.form) (row_past n (ltb-false n 51 e))
 
-pub form_known : (n r : ℕ) → r ≡ form_by n → r ≡ (rule_row n).form
+pub form_known : (n : ℕ) (r : Form) → r ≡ form_by n → r ≡ (rule_row n).form
 form_known n r e = e ∙ form_is n
+
+pub ruleset form_at_branches = (form_known, nat_tests)

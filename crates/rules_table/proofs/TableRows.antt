@@ -20,5 +20,3 @@ row_listed n d h = same_inside rows n d unlisted h
 pub row_past : (n : ℕ) → 51 ≤ n → unlisted ≡ rule_row n
 unfolding rule_row
 row_past n h = sym (get_or-eq_default rows unlisted h)
-
-pub ruleset rule_at_branches = (row_listed, row_past)

@@ -15,6 +15,7 @@ use Rattle.logic_schemas.specs.Fits.{is_among}
 use Rattle.formula.specs.Tree.{Tree, Tree.node}
 use Rattle.formula_compare.specs.Same.{same_tree}
 use Rattle.formula_compare.specs.Replace.{replace_t, one_name, named}
+use Rattle.formula_compare.specs.declared.replace.Name.{Name}
 use Rattle.formula_compare.specs.Occurs.{occurs, register, word_any_role, flag}
 use Rattle.formula_trees.specs.StatementTree.{implication, hoare, paired, TreeConclusion, Acting, form_of, placed}
 use Rattle.tables_rows.specs.Entailment.{ImpT}
@@ -104,8 +105,8 @@ module _ (a : Acting) where
   -- the substitution that a rule names, on trees
   abbrev pub replacing : By → ℕ → ℕ → Tree
   replacing by_notes = named a.notes
-  replacing r_by_x = one_name false a.register (node (byte Code.word) a.word Tree.none Tree.none)
-  replacing x_by_f = one_name true a.word a.formula
+  replacing r_by_x = one_name (Name.Register a.register) (node (byte Code.word) a.word Tree.none Tree.none)
+  replacing x_by_f = one_name (Name.Word a.word) a.formula
 
   -- neither the word, in any role, nor the result register of an exchange or a fetch-add occurs in the tree
   abbrev pub apart_t : Tree → Bool

@@ -1,54 +1,40 @@
 -- The table of rules as the code has it: what `rule_at` and `all_templates` return.
-use Rattle.std.specs.Prelude.{List, [], ◌∷◌, ℕ, ◌+◌, get_or}
+use Rattle.std.specs.Prelude.{Bool, List, [], ◌∷◌, ℕ, ◌+◌, eqb, get_or}
+use Rattle.rules_table.specs.declared.rule.Form.{Form}
+use Rattle.rules_table.specs.declared.rule.Form.TheVariants.{Inclusion, Implication, Triple, Pair, Unlisted}
 use Rattle.rules_table.specs.declared.rule.Rule.{Rule}
+use Rattle.rules_table.specs.declared.rule.Side.{Side}
+use Rattle.rules_table.specs.declared.rule.Side.TheVariants.{Nothing, Kept, Assigned, Loaded, WordAbsent, Stored, ByRows, ByTable, StartValue, NewValue, StartsAtZero}
 
--- the form of a number that no rule has
-abbrev pub unlisted_form : ℕ
-unlisted_form = 4
+-- the number of a form: in the packed forms of premises, and on trees
+abbrev pub form_number : Form → ℕ
+form_number Inclusion = 0
+form_number Implication = 1
+form_number Triple = 2
+form_number Pair = 3
+form_number Unlisted = 4
 
--- the number of a rule without a side condition
-abbrev pub nothing : ℕ
-nothing = 0
+-- the form with a number
+abbrev pub form_numbered : ℕ → Form
+form_numbered n = get_or (Inclusion ∷ Implication ∷ Triple ∷ Pair ∷ []) n Unlisted
 
--- rule 1: the instruction preserves the assertion
-abbrev pub is_kept : ℕ
-is_kept = 1
+-- two forms are the same
+abbrev pub same_form : Form → Form → Bool
+same_form f g = eqb (form_number f) (form_number g)
 
--- rules 2 and 50: substitution for assigned registers
-abbrev pub assigned : ℕ
-assigned = 2
-
--- rules 3, 4 and 47: the register replaced by the word
-abbrev pub loaded : ℕ
-loaded = 3
-
--- rules 8 and 13: neither the word nor the result register occurs in J
-abbrev pub word_absent : ℕ
-word_absent = 4
-
--- rule 9: the word replaced by the formula, and no flag of the word
-abbrev pub stored : ℕ
-stored = 5
-
--- rules 21, 23, 24 and 30: by rows
-abbrev pub entailed_by_rows : ℕ
-entailed_by_rows = 6
-
--- rule 20: by truth table
-abbrev pub entailed_by_table : ℕ
-entailed_by_table = 7
-
--- rule 26: the start value of a word
-abbrev pub start_value : ℕ
-start_value = 8
-
--- rules 48 and 49: the value of the new write
-abbrev pub new_value : ℕ
-new_value = 9
-
--- rule 27: the register starts at 0
-abbrev pub starts_at_zero : ℕ
-starts_at_zero = 10
+-- a number for each side condition
+abbrev pub side_number : Side → ℕ
+side_number Nothing = 0
+side_number Kept = 1
+side_number Assigned = 2
+side_number Loaded = 3
+side_number WordAbsent = 4
+side_number Stored = 5
+side_number ByRows = 6
+side_number ByTable = 7
+side_number StartValue = 8
+side_number NewValue = 9
+side_number StartsAtZero = 10
 
 -- the premise count of rule 20, which has 0 to 4 implications
 abbrev pub any_implications : ℕ
@@ -111,68 +97,68 @@ abbrev pub all_but_pairs : ℕ
 all_but_pairs = assignments + accesses
 
 -- a row of the table
-abbrev pub rule : ℕ → ℕ → ℕ → ℕ → ℕ → ℕ → Rule
+abbrev pub rule : Form → ℕ → ℕ → ℕ → ℕ → Side → Rule
 rule form template premises forms operations side =
     record { form = form; template = template; premises = premises; forms = forms; operations = operations; side = side }
 
 -- the row of a number that no rule has
 abbrev pub unlisted : Rule
-unlisted = rule unlisted_form 0 0 0 none nothing
+unlisted = rule Unlisted 0 0 0 none Nothing
 
 -- the rows by rule number, from 0
 abbrev pub rows : List Rule
 rows =
     unlisted ∷
-    rule 2 0 0 0 accesses is_kept ∷
-    rule 2 2 0 0 assignments assigned ∷
-    rule 2 4 0 0 loads loaded ∷
-    rule 2 10 1 2 loads loaded ∷
-    rule 2 24 1 2 acquires nothing ∷
-    rule 2 36 0 0 stores nothing ∷
-    rule 2 50 0 0 stores nothing ∷
-    rule 2 70 0 0 releasing_store word_absent ∷
-    rule 2 91 0 0 stores_and_swap stored ∷
-    rule 2 104 1 2 writes nothing ∷
-    rule 2 116 0 0 swap nothing ∷
-    rule 2 134 0 0 swap nothing ∷
-    rule 2 165 0 0 read_modify_writes word_absent ∷
-    rule 2 197 2 10 all_but_pairs nothing ∷
-    rule 2 207 2 10 all_but_pairs nothing ∷
-    rule 2 217 3 25 all_but_pairs nothing ∷
+    rule Triple 0 0 0 accesses Kept ∷
+    rule Triple 2 0 0 assignments Assigned ∷
+    rule Triple 4 0 0 loads Loaded ∷
+    rule Triple 10 1 2 loads Loaded ∷
+    rule Triple 24 1 2 acquires Nothing ∷
+    rule Triple 36 0 0 stores Nothing ∷
+    rule Triple 50 0 0 stores Nothing ∷
+    rule Triple 70 0 0 releasing_store WordAbsent ∷
+    rule Triple 91 0 0 stores_and_swap Stored ∷
+    rule Triple 104 1 2 writes Nothing ∷
+    rule Triple 116 0 0 swap Nothing ∷
+    rule Triple 134 0 0 swap Nothing ∷
+    rule Triple 165 0 0 read_modify_writes WordAbsent ∷
+    rule Triple 197 2 10 all_but_pairs Nothing ∷
+    rule Triple 207 2 10 all_but_pairs Nothing ∷
+    rule Triple 217 3 25 all_but_pairs Nothing ∷
     unlisted ∷
     unlisted ∷
     unlisted ∷
-    rule 1 225 any_implications 0 none entailed_by_table ∷
-    rule 1 227 0 0 none entailed_by_rows ∷
-    rule 1 231 1 0 none nothing ∷
-    rule 1 239 0 0 none entailed_by_rows ∷
-    rule 1 245 0 0 none entailed_by_rows ∷
-    rule 1 251 0 0 none nothing ∷
-    rule 1 263 0 0 none start_value ∷
-    rule 1 274 0 0 none starts_at_zero ∷
+    rule Implication 225 any_implications 0 none ByTable ∷
+    rule Implication 227 0 0 none ByRows ∷
+    rule Implication 231 1 0 none Nothing ∷
+    rule Implication 239 0 0 none ByRows ∷
+    rule Implication 245 0 0 none ByRows ∷
+    rule Implication 251 0 0 none Nothing ∷
+    rule Implication 263 0 0 none StartValue ∷
+    rule Implication 274 0 0 none StartsAtZero ∷
     unlisted ∷
     unlisted ∷
-    rule 0 281 0 0 none entailed_by_rows ∷
-    rule 0 285 2 0 none nothing ∷
-    rule 0 291 2 0 none nothing ∷
-    rule 0 301 0 0 none nothing ∷
-    rule 0 311 0 0 none nothing ∷
-    rule 0 321 0 0 none nothing ∷
-    rule 0 325 0 0 none nothing ∷
-    rule 0 329 0 0 none nothing ∷
-    rule 0 336 0 0 none nothing ∷
-    rule 0 348 0 0 none nothing ∷
-    rule 0 352 0 0 none nothing ∷
-    rule 0 356 2 0 none nothing ∷
-    rule 0 364 0 0 none nothing ∷
-    rule 0 368 0 0 none nothing ∷
-    rule 0 372 2 0 none nothing ∷
-    rule 0 380 0 0 none nothing ∷
-    rule 0 389 0 0 none nothing ∷
-    rule 2 4 0 0 updates loaded ∷
-    rule 2 391 0 0 updates new_value ∷
-    rule 2 409 0 0 updates new_value ∷
-    rule 3 440 1 2 pairs assigned ∷
+    rule Inclusion 281 0 0 none ByRows ∷
+    rule Inclusion 285 2 0 none Nothing ∷
+    rule Inclusion 291 2 0 none Nothing ∷
+    rule Inclusion 301 0 0 none Nothing ∷
+    rule Inclusion 311 0 0 none Nothing ∷
+    rule Inclusion 321 0 0 none Nothing ∷
+    rule Inclusion 325 0 0 none Nothing ∷
+    rule Inclusion 329 0 0 none Nothing ∷
+    rule Inclusion 336 0 0 none Nothing ∷
+    rule Inclusion 348 0 0 none Nothing ∷
+    rule Inclusion 352 0 0 none Nothing ∷
+    rule Inclusion 356 2 0 none Nothing ∷
+    rule Inclusion 364 0 0 none Nothing ∷
+    rule Inclusion 368 0 0 none Nothing ∷
+    rule Inclusion 372 2 0 none Nothing ∷
+    rule Inclusion 380 0 0 none Nothing ∷
+    rule Inclusion 389 0 0 none Nothing ∷
+    rule Triple 4 0 0 updates Loaded ∷
+    rule Triple 391 0 0 updates NewValue ∷
+    rule Triple 409 0 0 updates NewValue ∷
+    rule Pair 440 1 2 pairs Assigned ∷
     []
 
 -- the row of the rule with number n

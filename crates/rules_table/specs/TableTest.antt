@@ -14,7 +14,9 @@ use Rattle.formula_match.specs.Template.{shapes}
 use Rattle.formula_match.specs.MatchPlaces.{proper}
 use Rattle.formula_trees.specs.StatementTree.{form_of}
 use Rattle.rules_table.specs.FitTree.{left_of, right_of}
-use Rattle.rules_table.specs.RuleTable.{nothing, is_kept, assigned, loaded, word_absent, stored, entailed_by_rows, entailed_by_table, start_value, starts_at_zero, new_value, any_implications, rule_row, templates}
+use Rattle.rules_table.specs.declared.rule.Side as Code
+use Rattle.rules_table.specs.declared.rule.Side.TheVariants.{Nothing, Kept, Assigned, Loaded, WordAbsent, Stored, ByRows, ByTable, StartValue, NewValue, StartsAtZero}
+use Rattle.rules_table.specs.RuleTable.{any_implications, form_number, side_number, rule_row, templates}
 
 -- the trees of schemas, left side and right side of each
 abbrev pub trees : List Shape → List Tree
@@ -53,20 +55,24 @@ operations =
     ∷ Opcode.fetch_add
     ∷ Opcode.pair_store ∷ Opcode.pair_release ∷ Opcode.pair_swap ∷ Opcode.assign_two ∷ []
 
--- the number of a rule's side conditions; rule 9, which has two, has one number for both
-abbrev pub side_number : List Side → ℕ
-side_number [] = nothing
-side_number (◌is◌with◌ p q by_notes ∷ l) = assigned
-side_number (◌is◌with◌ p q r_by_x ∷ l) = loaded
-side_number (◌is◌with◌ p q x_by_f ∷ l) = stored
-side_number (start_of n p ∷ l) = start_value
-side_number (starts_at_0 n ∷ l) = starts_at_zero
-side_number (is_new p ∷ l) = new_value
-side_number (kept p ∷ l) = is_kept
-side_number (lacks_x p ∷ l) = word_absent
-side_number (no_flag p ∷ l) = nothing
-side_number (by_rows p q ∷ l) = entailed_by_rows
-side_number (by_table ∷ l) = entailed_by_table
+-- the side condition in the code's row; rule 9, which has two, has one for both
+abbrev pub side_of : List Side → Code.Side
+side_of [] = Nothing
+side_of (◌is◌with◌ p q by_notes ∷ l) = Assigned
+side_of (◌is◌with◌ p q r_by_x ∷ l) = Loaded
+side_of (◌is◌with◌ p q x_by_f ∷ l) = Stored
+side_of (start_of n p ∷ l) = StartValue
+side_of (starts_at_0 n ∷ l) = StartsAtZero
+side_of (is_new p ∷ l) = NewValue
+side_of (kept p ∷ l) = Kept
+side_of (lacks_x p ∷ l) = WordAbsent
+side_of (no_flag p ∷ l) = Nothing
+side_of (by_rows p q ∷ l) = ByRows
+side_of (by_table ∷ l) = ByTable
+
+-- two side conditions are the same
+abbrev pub same_side : Code.Side → Code.Side → Bool
+same_side a b = eqb (side_number a) (side_number b)
 
 -- the premise count is right, and no more than a line may have
 abbrev pub premises_right : Rule → Bool
@@ -76,8 +82,8 @@ premises_right n = eqb (rule_row (number_of n)).premises (premise_count (row n).
 -- the code's row of the rule says what the logic's says
 abbrev pub listed_right : Rule → Bool
 listed_right n =
-    (eqb (rule_row (number_of n)).form (form_of (row n).says)
+    (eqb (form_number (rule_row (number_of n)).form) (form_of (row n).says)
     && (premises_right n && eqb (rule_row (number_of n)).forms (packed (shapes (row n).premises))))
     && ((all (λ op. same_bit (allows (rule_row (number_of n)).operations op) (is_among op (row n).operations)) operations
-    && eqb (rule_row (number_of n)).side (side_number (row n).sides))
+    && same_side (rule_row (number_of n)).side (side_of (row n).sides))
     && stand_at (rule_row (number_of n)).template (trees ((row n).says ∷ shapes (row n).premises)))

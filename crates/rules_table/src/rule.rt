@@ -2,52 +2,61 @@
 ghost use Rattle.std.specs.Prelude.{◌≡◌};
 ghost use Rattle.rules_table.specs.RuleTable.{rule_row};
 
-// What a line states, a number for each form: an interval in an interval, an implication, a Hoare triple, a Hoare triple of a whole pair.
-#[derive(Drop)]
-pub struct Form {}
-
-impl Form {
-    pub const INCLUSION: u8 = 0;
-
-    pub const IMPLICATION: u8 = 1;
-
-    pub const TRIPLE: u8 = 2;
-
-    pub const PAIR: u8 = 3;
-
-    // The form of a number that no rule has.
-    pub const UNLISTED: u8 = 4;
+// What a line states: an interval in an interval, an implication, a Hoare triple, a Hoare triple of a whole pair. Unlisted is the form of a
+// number that no rule has.
+// image_bodies::line::Form has these variants too: this crate stands beside the image's and knows none of them.
+#[derive(Clone, Copy, PartialEq, Eq)]
+pub enum Form {
+    Inclusion,
+    Implication,
+    Triple,
+    Pair,
+    Unlisted,
 }
 
-// The side conditions of rules, a number for each; a rule has one of them.
-#[derive(Drop)]
-pub struct Side {}
+impl Form {
+    ghost use Rattle.rules_table.specs.RuleTable.{form_numbered};
 
-impl Side {
-    pub const NONE: u8 = 0;
+    // The form with this number, two bits in a row's `forms`.
+    // No `From<u8>`: a form is made of a rule's number too (`form_at`), so the name says which number is meant.
+    #[tactic(auto, using(crate::proofs::RuleForms::numbered_past))]
+    pub fn from_bits(bits: u8) -> Form
+        ensures { result ≡ form_numbered bits }
+    {
+        match bits {
+            0 => Form::Inclusion,
+            1 => Form::Implication,
+            2 => Form::Triple,
+            3 => Form::Pair,
+            _ => Form::Unlisted,
+        }
+    }
+}
+
+// The side conditions of rules; a rule has one of them.
+#[derive(Clone, Copy, PartialEq, Eq)]
+pub enum Side {
+    Nothing,
     // Rule 1: the instruction preserves the assertion.
-    pub const KEPT: u8 = 1;
+    Kept,
     // Rules 2 and 50: P is Q with each assigned register replaced by its formula; P is the left side, of rule 50 the premise's right side.
-    pub const ASSIGNED: u8 = 2;
+    Assigned,
     // Rules 3, 4 and 47: the left test is the right one with the register replaced by the word.
-    pub const LOADED: u8 = 3;
+    Loaded,
     // Rules 8 and 13: neither the word, in any role, nor the result register occurs in J.
-    pub const WORD_ABSENT: u8 = 4;
+    WordAbsent,
     // Rule 9: the second test is the first with the word replaced by the formula; neither flag of the word occurs in the first.
-    pub const STORED: u8 = 5;
-
+    Stored,
     // Rules 21, 23, 24 and 30: the left test implies the right one, by rows.
-    pub const BY_ROWS: u8 = 6;
-
+    ByRows,
     // Rule 20: the premises imply the line, by truth table.
-    pub const BY_TABLE: u8 = 7;
-
+    ByTable,
     // Rule 26: the constant is the word's start value.
-    pub const START_VALUE: u8 = 8;
+    StartValue,
     // Rules 48 and 49: the value is that of the new write, as it reads after the step.
-    pub const NEW_VALUE: u8 = 9;
+    NewValue,
     // Rule 27: the register starts at 0.
-    pub const STARTS_AT_ZERO: u8 = 10;
+    StartsAtZero,
 }
 
 // The operations that a rule allows: bit k stands for operation k. Each set is named by what its operations do.
@@ -94,10 +103,10 @@ impl Operations {
 pub struct Rule {
     pub template: u16,
     pub operations: u16,
-    pub form: u8,
+    pub form: Form,
     pub premises: u8,
     pub forms: u8,
-    pub side: u8,
+    pub side: Side,
 }
 
 // Numbers of the table.
@@ -112,423 +121,408 @@ impl Rules {
 
 // The row of a number that no rule has.
 const UNLISTED: Rule = Rule {
-    form: Form::UNLISTED,
+    form: Form::Unlisted,
     template: 0,
     premises: 0,
     forms: 0,
     operations: Operations::NONE,
-    side: Side::NONE,
+    side: Side::Nothing,
 };
 
 // The row of each rule, by its number.
 pub const RULES: [Rule; 51] = [
     UNLISTED,
     Rule {
-        form: Form::TRIPLE,
+        form: Form::Triple,
         template: 0,
         premises: 0,
         forms: 0,
         operations: Operations::ACCESSES,
-        side: Side::KEPT,
+        side: Side::Kept,
     },
     Rule {
-        form: Form::TRIPLE,
+        form: Form::Triple,
         template: 2,
         premises: 0,
         forms: 0,
         operations: Operations::ASSIGNMENTS,
-        side: Side::ASSIGNED,
+        side: Side::Assigned,
     },
     Rule {
-        form: Form::TRIPLE,
+        form: Form::Triple,
         template: 4,
         premises: 0,
         forms: 0,
         operations: Operations::LOADS,
-        side: Side::LOADED,
+        side: Side::Loaded,
     },
     Rule {
-        form: Form::TRIPLE,
+        form: Form::Triple,
         template: 10,
         premises: 1,
         forms: 2,
         operations: Operations::LOADS,
-        side: Side::LOADED,
+        side: Side::Loaded,
     },
     Rule {
-        form: Form::TRIPLE,
+        form: Form::Triple,
         template: 24,
         premises: 1,
         forms: 2,
         operations: Operations::ACQUIRES,
-        side: Side::NONE,
+        side: Side::Nothing,
     },
     Rule {
-        form: Form::TRIPLE,
+        form: Form::Triple,
         template: 36,
         premises: 0,
         forms: 0,
         operations: Operations::STORES,
-        side: Side::NONE,
+        side: Side::Nothing,
     },
     Rule {
-        form: Form::TRIPLE,
+        form: Form::Triple,
         template: 50,
         premises: 0,
         forms: 0,
         operations: Operations::STORES,
-        side: Side::NONE,
+        side: Side::Nothing,
     },
     Rule {
-        form: Form::TRIPLE,
+        form: Form::Triple,
         template: 70,
         premises: 0,
         forms: 0,
         operations: Operations::RELEASING_STORE,
-        side: Side::WORD_ABSENT,
+        side: Side::WordAbsent,
     },
     Rule {
-        form: Form::TRIPLE,
+        form: Form::Triple,
         template: 91,
         premises: 0,
         forms: 0,
         operations: Operations::STORES_AND_SWAP,
-        side: Side::STORED,
+        side: Side::Stored,
     },
     Rule {
-        form: Form::TRIPLE,
+        form: Form::Triple,
         template: 104,
         premises: 1,
         forms: 2,
         operations: Operations::WRITES,
-        side: Side::NONE,
+        side: Side::Nothing,
     },
     Rule {
-        form: Form::TRIPLE,
+        form: Form::Triple,
         template: 116,
         premises: 0,
         forms: 0,
         operations: Operations::SWAP,
-        side: Side::NONE,
+        side: Side::Nothing,
     },
     Rule {
-        form: Form::TRIPLE,
+        form: Form::Triple,
         template: 134,
         premises: 0,
         forms: 0,
         operations: Operations::SWAP,
-        side: Side::NONE,
+        side: Side::Nothing,
     },
     Rule {
-        form: Form::TRIPLE,
+        form: Form::Triple,
         template: 165,
         premises: 0,
         forms: 0,
         operations: Operations::READ_MODIFY_WRITES,
-        side: Side::WORD_ABSENT,
+        side: Side::WordAbsent,
     },
     Rule {
-        form: Form::TRIPLE,
+        form: Form::Triple,
         template: 197,
         premises: 2,
         forms: 10,
         operations: Operations::ALL_BUT_PAIRS,
-        side: Side::NONE,
+        side: Side::Nothing,
     },
     Rule {
-        form: Form::TRIPLE,
+        form: Form::Triple,
         template: 207,
         premises: 2,
         forms: 10,
         operations: Operations::ALL_BUT_PAIRS,
-        side: Side::NONE,
+        side: Side::Nothing,
     },
     Rule {
-        form: Form::TRIPLE,
+        form: Form::Triple,
         template: 217,
         premises: 3,
         forms: 25,
         operations: Operations::ALL_BUT_PAIRS,
-        side: Side::NONE,
+        side: Side::Nothing,
     },
     UNLISTED,
     UNLISTED,
     UNLISTED,
     Rule {
-        form: Form::IMPLICATION,
+        form: Form::Implication,
         template: 225,
         premises: Rules::IMPLICATIONS,
         forms: 0,
         operations: Operations::NONE,
-        side: Side::BY_TABLE,
+        side: Side::ByTable,
     },
     Rule {
-        form: Form::IMPLICATION,
+        form: Form::Implication,
         template: 227,
         premises: 0,
         forms: 0,
         operations: Operations::NONE,
-        side: Side::BY_ROWS,
+        side: Side::ByRows,
     },
     Rule {
-        form: Form::IMPLICATION,
+        form: Form::Implication,
         template: 231,
         premises: 1,
         forms: 0,
         operations: Operations::NONE,
-        side: Side::NONE,
+        side: Side::Nothing,
     },
     Rule {
-        form: Form::IMPLICATION,
+        form: Form::Implication,
         template: 239,
         premises: 0,
         forms: 0,
         operations: Operations::NONE,
-        side: Side::BY_ROWS,
+        side: Side::ByRows,
     },
     Rule {
-        form: Form::IMPLICATION,
+        form: Form::Implication,
         template: 245,
         premises: 0,
         forms: 0,
         operations: Operations::NONE,
-        side: Side::BY_ROWS,
+        side: Side::ByRows,
     },
     Rule {
-        form: Form::IMPLICATION,
+        form: Form::Implication,
         template: 251,
         premises: 0,
         forms: 0,
         operations: Operations::NONE,
-        side: Side::NONE,
+        side: Side::Nothing,
     },
     Rule {
-        form: Form::IMPLICATION,
+        form: Form::Implication,
         template: 263,
         premises: 0,
         forms: 0,
         operations: Operations::NONE,
-        side: Side::START_VALUE,
+        side: Side::StartValue,
     },
     Rule {
-        form: Form::IMPLICATION,
+        form: Form::Implication,
         template: 274,
         premises: 0,
         forms: 0,
         operations: Operations::NONE,
-        side: Side::STARTS_AT_ZERO,
+        side: Side::StartsAtZero,
     },
     UNLISTED,
     UNLISTED,
     Rule {
-        form: Form::INCLUSION,
+        form: Form::Inclusion,
         template: 281,
         premises: 0,
         forms: 0,
         operations: Operations::NONE,
-        side: Side::BY_ROWS,
+        side: Side::ByRows,
     },
     Rule {
-        form: Form::INCLUSION,
+        form: Form::Inclusion,
         template: 285,
         premises: 2,
         forms: 0,
         operations: Operations::NONE,
-        side: Side::NONE,
+        side: Side::Nothing,
     },
     Rule {
-        form: Form::INCLUSION,
+        form: Form::Inclusion,
         template: 291,
         premises: 2,
         forms: 0,
         operations: Operations::NONE,
-        side: Side::NONE,
+        side: Side::Nothing,
     },
     Rule {
-        form: Form::INCLUSION,
+        form: Form::Inclusion,
         template: 301,
         premises: 0,
         forms: 0,
         operations: Operations::NONE,
-        side: Side::NONE,
+        side: Side::Nothing,
     },
     Rule {
-        form: Form::INCLUSION,
+        form: Form::Inclusion,
         template: 311,
         premises: 0,
         forms: 0,
         operations: Operations::NONE,
-        side: Side::NONE,
+        side: Side::Nothing,
     },
     Rule {
-        form: Form::INCLUSION,
+        form: Form::Inclusion,
         template: 321,
         premises: 0,
         forms: 0,
         operations: Operations::NONE,
-        side: Side::NONE,
+        side: Side::Nothing,
     },
     Rule {
-        form: Form::INCLUSION,
+        form: Form::Inclusion,
         template: 325,
         premises: 0,
         forms: 0,
         operations: Operations::NONE,
-        side: Side::NONE,
+        side: Side::Nothing,
     },
     Rule {
-        form: Form::INCLUSION,
+        form: Form::Inclusion,
         template: 329,
         premises: 0,
         forms: 0,
         operations: Operations::NONE,
-        side: Side::NONE,
+        side: Side::Nothing,
     },
     Rule {
-        form: Form::INCLUSION,
+        form: Form::Inclusion,
         template: 336,
         premises: 0,
         forms: 0,
         operations: Operations::NONE,
-        side: Side::NONE,
+        side: Side::Nothing,
     },
     Rule {
-        form: Form::INCLUSION,
+        form: Form::Inclusion,
         template: 348,
         premises: 0,
         forms: 0,
         operations: Operations::NONE,
-        side: Side::NONE,
+        side: Side::Nothing,
     },
     Rule {
-        form: Form::INCLUSION,
+        form: Form::Inclusion,
         template: 352,
         premises: 0,
         forms: 0,
         operations: Operations::NONE,
-        side: Side::NONE,
+        side: Side::Nothing,
     },
     Rule {
-        form: Form::INCLUSION,
+        form: Form::Inclusion,
         template: 356,
         premises: 2,
         forms: 0,
         operations: Operations::NONE,
-        side: Side::NONE,
+        side: Side::Nothing,
     },
     Rule {
-        form: Form::INCLUSION,
+        form: Form::Inclusion,
         template: 364,
         premises: 0,
         forms: 0,
         operations: Operations::NONE,
-        side: Side::NONE,
+        side: Side::Nothing,
     },
     Rule {
-        form: Form::INCLUSION,
+        form: Form::Inclusion,
         template: 368,
         premises: 0,
         forms: 0,
         operations: Operations::NONE,
-        side: Side::NONE,
+        side: Side::Nothing,
     },
     Rule {
-        form: Form::INCLUSION,
+        form: Form::Inclusion,
         template: 372,
         premises: 2,
         forms: 0,
         operations: Operations::NONE,
-        side: Side::NONE,
+        side: Side::Nothing,
     },
     Rule {
-        form: Form::INCLUSION,
+        form: Form::Inclusion,
         template: 380,
         premises: 0,
         forms: 0,
         operations: Operations::NONE,
-        side: Side::NONE,
+        side: Side::Nothing,
     },
     Rule {
-        form: Form::INCLUSION,
+        form: Form::Inclusion,
         template: 389,
         premises: 0,
         forms: 0,
         operations: Operations::NONE,
-        side: Side::NONE,
+        side: Side::Nothing,
     },
     Rule {
-        form: Form::TRIPLE,
+        form: Form::Triple,
         template: 4,
         premises: 0,
         forms: 0,
         operations: Operations::UPDATES,
-        side: Side::LOADED,
+        side: Side::Loaded,
     },
     Rule {
-        form: Form::TRIPLE,
+        form: Form::Triple,
         template: 391,
         premises: 0,
         forms: 0,
         operations: Operations::UPDATES,
-        side: Side::NEW_VALUE,
+        side: Side::NewValue,
     },
     Rule {
-        form: Form::TRIPLE,
+        form: Form::Triple,
         template: 409,
         premises: 0,
         forms: 0,
         operations: Operations::UPDATES,
-        side: Side::NEW_VALUE,
+        side: Side::NewValue,
     },
     Rule {
-        form: Form::PAIR,
+        form: Form::Pair,
         template: 440,
         premises: 1,
         forms: 2,
         operations: Operations::PAIRS,
-        side: Side::ASSIGNED,
+        side: Side::Assigned,
     },
 ];
 
 // The row of the rule with this number; for a number that no rule has, the row of an unlisted rule.
+#[tactic(auto, using(crate::proofs::TableRows::row_past))]
 pub fn rule_at(number: u8) -> Rule
     ensures { result ≡ rule_row number }
 {
-    let n = number as usize;
     if number < Rules::COUNT {
-        return RULES[n];
+        RULES[usize::from(number)]
+    } else {
+        UNLISTED
     }
-    UNLISTED
 }
 
 // The form of a rule's lines, by comparisons, which are quicker than the table: rules 1 to 16 are of triples, 20 to 27 of implications, 30
 // to 46 of inclusions, 47 to 49 of triples, 50 of triples of whole pairs.
-pub fn form_at(number: u8) -> u8
+// A function and no `From`: docs/DECISIONS.md names it ("Forms named for a place").
+#[tactic(auto, using(crate::proofs::RuleForms::form_at_branches), unfolding(crate::proofs::RuleForms::form_by))]
+pub fn form_at(number: u8) -> Form
     ensures { result ≡ (rule_row number).form }
 {
-    if number == 0 {
-        return Form::UNLISTED;
+    match number {
+        1..=16 | 47..=49 => Form::Triple,
+        20..=27 => Form::Implication,
+        30..=46 => Form::Inclusion,
+        50 => Form::Pair,
+        _ => Form::Unlisted,
     }
-    if number <= 16 {
-        return Form::TRIPLE;
-    }
-    if number < 20 {
-        return Form::UNLISTED;
-    }
-    if number <= 27 {
-        return Form::IMPLICATION;
-    }
-    if number < 30 {
-        return Form::UNLISTED;
-    }
-    if number <= 46 {
-        return Form::INCLUSION;
-    }
-    if number < 50 {
-        return Form::TRIPLE;
-    }
-    if number == 50 {
-        return Form::PAIR;
-    }
-    Form::UNLISTED
 }

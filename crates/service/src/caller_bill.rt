@@ -1,29 +1,13 @@
 // The bill for a caller of the service.
 ghost use Rattle.std.specs.Prelude.{◌≡◌};
-ghost use Rattle.bill_spec.specs.Output.{size};
 ghost use Rattle.service_spec.specs.declared.rights.Right.TheVariants.{Bill};
 ghost use Rattle.service_spec.specs.Account.{admission};
-ghost use Rattle.service_spec.specs.Request.{cleared};
 ghost use Rattle.service_spec.specs.Promise.{BillServed};
 
 use bill::into::bill_into;
-use bill_spec::numbers::{Numbers, write_numbers};
 use bill_spec::tariff::Tariff;
 use service_spec::rights::Service;
 use verdict_record::output::Output;
-
-// Sets the numbers of a refused bill to 0; an `answer` that is too short for them stays.
-pub fn clear_bill(answer: &mut [u32])
-    ensures { answer.new ≡ cleared size answer.old }
-{
-    if answer.len() < Numbers::SIZE {
-        return;
-    }
-    let none = Numbers {
-        at: [0; Numbers::SIZE],
-    };
-    write_numbers(none, answer);
-}
 
 // Bills by the caller's own number, which a bill without an error raises by one; 1 if the service is too short to have that number.
 pub fn bill_caller<'a, 'b, 'c>(

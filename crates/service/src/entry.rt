@@ -3,8 +3,8 @@
 ghost use Rattle.bill_spec.specs.Output.{tariff_of};
 ghost use Rattle.service_spec.specs.Promise.{CheckServed, TrimServed, BillServed, HandoverServed, ReplayServed, AcrossServed};
 
-use crate::caller_bill::{bill_caller, clear_bill};
-use crate::refused_replay::clear_replay;
+use crate::caller_bill::bill_caller;
+use crate::refused::{clear_bill, clear_replay};
 use bill_spec::tariff::Tariff;
 use checker::entry::check_image;
 use handover::entry::check_handover;
@@ -14,6 +14,8 @@ use service_spec::rights::{Right, admitted};
 use trim::entry::trim_image;
 
 // Calls `check_image` for a caller with the right to check.
+// The parameters of the functions here are those of the C interface, `include/hidokpalu.h`.
+#[tactic(auto, using(service_spec::proofs::ReplyBranches::entry_serving, limits::proofs::BranchTests::tests))]
 #[unsafe(no_mangle)]
 pub extern "C" fn serve_check<'a, 'b, 'c>(
     service: &'a [u32],
@@ -23,14 +25,14 @@ pub extern "C" fn serve_check<'a, 'b, 'c>(
 ) -> u16
     ensures { CheckServed service.now caller image.now out.old result out.new }
 {
-    let refusal = admitted(service, caller, Right::Check);
-    if refusal != 0 {
-        return refusal;
+    match admitted(service, caller, Right::Check) {
+        Ok(()) => check_image(image, out),
+        Err(denied) => denied.code(),
     }
-    check_image(image, out)
 }
 
 // Calls `trim_image` for a caller with the right to check; `written` is 0 if the caller is refused.
+#[tactic(auto, using(service_spec::proofs::ReplyBranches::entry_serving, limits::proofs::BranchTests::tests))]
 #[unsafe(no_mangle)]
 pub extern "C" fn serve_trim<'a, 'b, 'c, 'd>(
     service: &'a [u32],
@@ -42,15 +44,17 @@ pub extern "C" fn serve_trim<'a, 'b, 'c, 'd>(
     ensures { TrimServed service.now caller image.now out.old result written.new
         out.new }
 {
-    let refusal = admitted(service, caller, Right::Check);
-    if refusal != 0 {
-        *written = 0;
-        return refusal;
+    match admitted(service, caller, Right::Check) {
+        Ok(()) => trim_image(image, out, written),
+        Err(denied) => {
+            *written = 0;
+            denied.code()
+        }
     }
-    trim_image(image, out, written)
 }
 
 // Calls `check_handover` for a caller with the right to check.
+#[tactic(auto, using(service_spec::proofs::ReplyBranches::entry_serving, limits::proofs::BranchTests::tests))]
 #[unsafe(no_mangle)]
 pub extern "C" fn serve_handover<'a, 'b, 'c, 'd>(
     service: &'a [u32],
@@ -61,15 +65,15 @@ pub extern "C" fn serve_handover<'a, 'b, 'c, 'd>(
 ) -> u16
     ensures { HandoverServed service.now caller old.now new.now table.now result }
 {
-    let refusal = admitted(service, caller, Right::Check);
-    if refusal != 0 {
-        return refusal;
+    match admitted(service, caller, Right::Check) {
+        Ok(()) => check_handover(old, new, table),
+        Err(denied) => denied.code(),
     }
-    check_handover(old, new, table)
 }
 
 // Bills an image for a caller with the right to bill, by the caller's own number: 31 if that is at its end. A bill without an error raises
 // it by one, and nothing else in the service changes.
+#[tactic(auto, using(service_spec::proofs::ReplyBranches::bill_refused, limits::proofs::BranchTests::tests))]
 #[unsafe(no_mangle)]
 pub extern "C" fn serve_bill<'a, 'b, 'c>(
     service: &'a mut [u32],
@@ -85,22 +89,26 @@ pub extern "C" fn serve_bill<'a, 'b, 'c>(
     ensures { BillServed service.old caller image.now (tariff_of start step taken interference least)
         answer.old service.new result answer.new }
 {
-    let refusal = admitted(service, caller, Right::Bill);
-    if refusal != 0 {
-        clear_bill(answer);
-        return refusal;
+    match admitted(service, caller, Right::Bill) {
+        Ok(()) => {
+            let tariff = Tariff {
+                start,
+                step,
+                taken,
+                interference,
+                least,
+            };
+            bill_caller(service, caller, image, tariff, answer)
+        }
+        Err(denied) => {
+            clear_bill(answer);
+            denied.code()
+        }
     }
-    let tariff = Tariff {
-        start,
-        step,
-        taken,
-        interference,
-        least,
-    };
-    bill_caller(service, caller, image, tariff, answer)
 }
 
 // Calls `replay_trace` for a caller with the right to replay; the numbers in `answer` are 0 if the caller is refused.
+#[tactic(auto, using(service_spec::proofs::ReplyBranches::entry_replaying, limits::proofs::BranchTests::tests))]
 #[unsafe(no_mangle)]
 pub extern "C" fn serve_replay<'a, 'b, 'c, 'd, 'e, 'f>(
     service: &'a [u32],
@@ -114,15 +122,17 @@ pub extern "C" fn serve_replay<'a, 'b, 'c, 'd, 'e, 'f>(
     ensures { ReplayServed service.now caller image.now trace.now given.now
         table.old answer.old result table.new answer.new }
 {
-    let refusal = admitted(service, caller, Right::Replay);
-    if refusal != 0 {
-        clear_replay(answer);
-        return refusal;
+    match admitted(service, caller, Right::Replay) {
+        Ok(()) => replay_trace(image, trace, given, table, answer),
+        Err(denied) => {
+            clear_replay(answer);
+            denied.code()
+        }
     }
-    replay_trace(image, trace, given, table, answer)
 }
 
 // Calls `replay_handover` for a caller with the right to replay; the numbers in `answer` are 0 if the caller is refused.
+#[tactic(auto, using(service_spec::proofs::ReplyBranches::entry_replaying, limits::proofs::BranchTests::tests))]
 #[unsafe(no_mangle)]
 pub extern "C" fn serve_replay_handover<'a, 'b, 'c, 'd, 'e, 'f, 'g, 'h, 'i>(
     service: &'a [u32],
@@ -140,10 +150,11 @@ pub extern "C" fn serve_replay_handover<'a, 'b, 'c, 'd, 'e, 'f, 'g, 'h, 'i>(
         first.now second.now given.now table.old answer.old result
         table.new answer.new }
 {
-    let refusal = admitted(service, caller, Right::Replay);
-    if refusal != 0 {
-        clear_replay(answer);
-        return refusal;
+    match admitted(service, caller, Right::Replay) {
+        Ok(()) => { replay_handover(old, new, points, first, second, given, table, answer) }
+        Err(denied) => {
+            clear_replay(answer);
+            denied.code()
+        }
     }
-    replay_handover(old, new, points, first, second, given, table, answer)
 }

@@ -3,7 +3,7 @@
 
 // A bill by the caller's own number, and the numbers of a bill or a replay that is refused.
 pub mod caller_bill;
-pub mod refused_replay;
+pub mod refused;
 
 // The entry points: the opening, and a call for each request.
 pub mod entry;

@@ -8,6 +8,7 @@ use verdict_record::output::Output;
 
 // Opens a service: the rights of callers 1 to 8, a byte for each, modulo 8, and a number of 0 for each. A `service` of fewer than sixteen
 // numbers stays as it was, and 1 is returned; else 0 is returned, and the numbers behind the sixteenth stay.
+#[tactic(auto, using(service_spec::proofs::OpeningBranches::open_service_branches, limits::proofs::BranchTests::tests))]
 #[unsafe(no_mangle)]
 pub extern "C" fn open_service<'a, 'b>(rights: &'a [u8], service: &'b mut [u32]) -> u16
     ensures { (result ≡ opening_code service.old)

@@ -2,30 +2,16 @@
 use mathlib.Core.Path.{◌≡◌, refl, sym, ◌∙◌}
 use mathlib.Core.Bool.{Bool, true, false, cond}
 use mathlib.Core.List.{List}
-use Prim.Native.Nat.{ℕ, ◌-◌, ◌/◌, ◌%◌, ◌≤◌, ◌<◌}
+use Prim.Native.Nat.{ℕ, ◌-◌, ◌≤◌, ◌<◌}
 use native.Mathlib.Omega.{arith}
-use lib.Dec.{eqb}
 use lib.ListN.{length, get_or, get_or-eq_default}
 use borrow.Author.Tests.{eq-eqb, ne_eqb, le-leb, lt-leb}
+use Rattle.service_spec.specs.declared.rights.Denied.{Denied}
+use Rattle.service_spec.specs.declared.rights.Denied.TheVariants.{NoCaller, NoRight}
 use Rattle.service_spec.specs.declared.rights.Right.{Right}
 use Rattle.service_spec.specs.declared.rights.Right.TheVariants.{Check, Replay, Bill}
-use Rattle.service_spec.specs.Account.{callers, holds, is_caller, account_of, admission_at, admission}
+use Rattle.service_spec.specs.Account.{callers, holds, is_caller, account_of, denied_code, admission_at, admission}
 use Rattle.service_spec.proofs.AccountNumbers.{caller_last, no_account}
-
-module _ (r : Right) (n : ℕ) where
-  pub check_bit : r ≡ Check → eqb (n % 2) 1 ≡ holds r n
-  unfolding holds
-  check_bit e = rw e
-
-  pub replay_bit : r ≡ Replay → eqb (n / 2 % 2) 1 ≡ holds r n
-  unfolding holds
-  replay_bit e = rw e
-
-  pub bill_bit : r ≡ Bill → eqb (n / 4 % 2) 1 ≡ holds r n
-  unfolding holds
-  bill_bit e = rw e
-
-pub ruleset has_right_branches = (check_bit, replay_bit, bill_bit)
 
 -- no right in a number that is not there
 none_held : (r : Right) → holds r 0 ≡ false
@@ -54,8 +40,8 @@ module _ (r : Right) (s : List ℕ) (c : ℕ) where
           let past : length s ≤ c - 1 = omega arith in
           by_right false (rw (get_or-eq_default s 0 past) (sym (none_held r)))
 
-      pub holder_admitted : (b : Bool) → b ≡ holds r (get_or s (c - 1) 0) → b ≡ true → 0 ≡ admission r s c
-      holder_admitted b e q = by_right true (sym q ∙ e)
+      pub holder_admitted : (b : Bool) → b ≡ holds r (get_or s (c - 1) 0) → b ≡ true → admission r s c ≡ 0
+      holder_admitted b e q = sym (by_right true (sym q ∙ e))
 
       pub other_refused : (b : Bool) → b ≡ holds r (get_or s (c - 1) 0) → b ≡ false → 36 ≡ admission r s c
       other_refused b e q = by_right false (sym q ∙ e)
@@ -70,3 +56,9 @@ admitted_caller r s c e = go (is_caller c) refl
     go false h = let x : admission_at r (account_of s c) ≡ 35 = rw (no_account s c h) in absurd (omega arith)
 
 pub ruleset admitted_branches = (zero_unknown, past_unknown, short_refused, holder_admitted, other_refused)
+
+-- a refusal has a code
+pub denied_apart : (d : Denied) → denied_code d ≡ 0 → ⊥
+unfolding denied_code
+denied_apart NoCaller e = omega arith
+denied_apart NoRight e = omega arith

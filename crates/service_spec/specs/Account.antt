@@ -3,6 +3,8 @@
 use Rattle.std.specs.Prelude.{Bool, not, cond, ◌&&◌, List, ℕ, ◌+◌, ◌-◌, ◌/◌, ◌%◌, eqb, leb, get_or}
 use Rattle.std.proofs.Math.Option.{Option, none, some}
 use Rattle.std.proofs.Math.ListN.{get_elem?}
+use Rattle.service_spec.specs.declared.rights.Denied.{Denied}
+use Rattle.service_spec.specs.declared.rights.Denied.TheVariants.{NoCaller, NoRight}
 use Rattle.service_spec.specs.declared.rights.Right.{Right}
 use Rattle.service_spec.specs.declared.rights.Right.TheVariants.{Check, Replay, Bill}
 
@@ -36,6 +38,11 @@ account_at s c = record { rights = get_or s (c - 1) 0; number = get_elem? s (num
 -- the account of c, if c is a caller
 unfoldable pub account_of : List ℕ → ℕ → Option Account
 account_of s c = cond (is_caller c) (some (account_at s c)) none
+
+-- the code of a refusal: "35 caller not 1 to 8; 36 right missing"
+unfoldable pub denied_code : Denied → ℕ
+denied_code NoCaller = 35
+denied_code NoRight = 36
 
 -- "35 caller not 1 to 8; 36 right missing"; 0 if the account has the right
 abbrev pub admission_at : Right → Option Account → ℕ

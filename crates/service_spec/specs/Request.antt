@@ -3,13 +3,13 @@ use Rattle.std.specs.Prelude.{Bool, true, false, cond, ◌&&◌, List, [], ◌�
 use Rattle.std.proofs.Math.Option.{Option, none, some}
 use Rattle.verdict_record.specs.Output as Verdict
 use Rattle.checker_spec.specs.ImageVerdict.{verdict}
-use Rattle.trim_encode.specs.Answer.{answer_for, buffer_for}
+use Rattle.trim_encode.specs.Answer.{answer_for, code_of, length_of, buffer_for}
 use Rattle.bill_spec.specs.declared.tariff.Tariff.{Tariff}
 use Rattle.bill_spec.specs.Bill.{bill_of}
 use Rattle.bill_spec.specs.Output.{size, code_for, numbers_for}
 use Rattle.handover_spec.specs.Code.{handover_code}
 use Rattle.replay_spec.specs.ReplayNumbers.{replay_of}
-use Rattle.replay_machine.specs.declared.replayed.Replayed.{Replayed}
+use Rattle.replay_machine.specs.Replayed.{Replayed}
 use Rattle.replay_machine.specs.Answer as Replay
 use Rattle.replay_machine.specs.Answer.{answer_of}
 use Rattle.replay_machine.specs.OutputTable.{shown_of, entries_in, table_for}
@@ -76,7 +76,7 @@ refused code (to_replay_across old new points first second given table room) = r
 -- the bill by the caller's own number; 1 if the service is too short to have it
 abbrev pub bill_reply : List ℕ → Tariff → List ℕ → Option ℕ → Reply
 bill_reply image f room none = replied 1 [] room
-bill_reply image f room (some n) = replied (code_for (bill_of image f n) room) [] (numbers_for (bill_of image f n) room)
+bill_reply image f room (some n) = replied (code_for (bill_of image f n) room) [] (numbers_for n (bill_of image f n) room)
 
 -- the code, the table and the numbers of a replay
 abbrev pub replay_reply : Replayed → List ℕ → List ℕ → Reply
@@ -86,7 +86,7 @@ replay_reply r table room =
 -- the call without a service, n images being billed before
 abbrev pub answered : Option ℕ → Request → Reply
 answered n (to_check image buffer) = replied (Verdict.code_for (verdict image) buffer) (Verdict.bytes_for (verdict image) buffer) []
-answered n (to_trim image buffer) = replied (answer_for image buffer).code (buffer_for image buffer) ((answer_for image buffer).length ∷ [])
+answered n (to_trim image buffer) = replied (code_of (answer_for image buffer)) (buffer_for image buffer) (length_of (answer_for image buffer) ∷ [])
 answered n (to_bill image f room) = bill_reply image f room n
 answered n (to_hand_over old new table) = replied (handover_code old new table) [] []
 answered n (to_replay image trace given table room) = replay_reply (replay_of image trace given (entries_in table)) table room

@@ -13,6 +13,7 @@ fn given_at(rights: &[u8], at: usize) -> u32
 }
 
 // The rights of callers 1 to 8, then the number of billed images of each, which is 0.
+#[tactic(auto, using(crate::proofs::OpeningBranches::sixteen, limits::proofs::BranchTests::tests))]
 pub fn opened_numbers(rights: &[u8]) -> [u32; Service::NUMBERS]
     ensures { result ≡ opened rights.now }
 {
@@ -41,9 +42,5 @@ pub fn write_service(numbers: [u32; Service::NUMBERS], service: &mut [u32])
     requires { places ≤ length service.old }
     ensures { service.new ≡ numbers ++ drop places service.old }
 {
-    let mut i: usize = 0;
-    while i < Service::NUMBERS {
-        service[i] = numbers[i];
-        i += 1;
-    }
+    service[..Service::NUMBERS].copy_from_slice(&numbers);
 }

@@ -1,6 +1,6 @@
 // The rights of callers: who may call for what.
-ghost use Rattle.std.specs.Prelude.{◌≡◌};
-ghost use Rattle.service_spec.specs.Account.{holds, admission};
+ghost use Rattle.std.specs.Prelude.{◌≡◌, MatchResult};
+ghost use Rattle.service_spec.specs.Account.{holds, denied_code, admission};
 
 // What a caller may ask for: check (also trimming and permitting a handover), replay (also across one), bill.
 #[derive(Clone, Copy)]
@@ -10,7 +10,7 @@ pub enum Right {
     Bill,
 }
 
-// The numbers of a service, and the codes for a caller that is refused.
+// The numbers of a service.
 #[derive(Drop)]
 pub struct Service;
 
@@ -26,15 +26,32 @@ impl Service {
 
     // A byte of rights is taken modulo this.
     pub const RIGHTS: u8 = 8;
+}
 
+// Why a caller is refused.
+#[derive(Clone, Copy, PartialEq, Eq)]
+pub enum Denied {
     // The caller is not 1 to 8.
-    pub const NO_CALLER: u16 = 35;
-
+    NoCaller,
     // The caller does not have the right.
-    pub const NO_RIGHT: u16 = 36;
+    NoRight,
+}
+
+impl Denied {
+    // The code that the caller is told.
+    #[tactic(auto, unfolding(crate::specs::Account::denied_code))]
+    pub fn code(self) -> u16
+        ensures { result ≡ denied_code self }
+    {
+        match self {
+            Denied::NoCaller => 35,
+            Denied::NoRight => 36,
+        }
+    }
 }
 
 // Whether the bits of `rights` have this right.
+#[tactic(auto, unfolding(crate::specs::Account::holds))]
 fn has_right(rights: u32, right: Right) -> bool
     ensures { result ≡ holds right rights }
 {
@@ -45,21 +62,23 @@ fn has_right(rights: u32, right: Right) -> bool
     }
 }
 
-// 0 for a caller with the right, else the code of the refusal. A service that is too short gives no right to the callers it leaves out.
-pub fn admitted(service: &[u32], caller: usize, right: Right) -> u16
-    ensures { result ≡ admission right service.now caller }
+// Whether a caller has the right. A service that is too short gives no right to the callers it leaves out.
+#[tactic(auto, using(crate::proofs::AdmissionBranches::admitted_branches), unfolding(crate::specs::Account::denied_code))]
+pub fn admitted(service: &[u32], caller: usize, right: Right) -> Result<(), Denied>
+    ensures { MatchResult result (λ done. admission right service.now caller ≡ 0)
+        (λ denied. denied_code denied ≡ admission right service.now caller) }
 {
     if caller == 0 {
-        return Service::NO_CALLER;
+        return Err(Denied::NoCaller);
     }
     if Service::CALLERS < caller {
-        return Service::NO_CALLER;
+        return Err(Denied::NoCaller);
     }
     if service.len() < caller {
-        return Service::NO_RIGHT;
+        return Err(Denied::NoRight);
     }
     if has_right(service[caller - 1], right) {
-        return 0;
+        return Ok(());
     }
-    Service::NO_RIGHT
+    Err(Denied::NoRight)
 }

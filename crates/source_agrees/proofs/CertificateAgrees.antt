@@ -24,7 +24,6 @@ use Rattle.image_bodies.specs.declared.line.Form.TheVariants.{Triple, Implicatio
 use Rattle.image_bodies.specs.Line.{form_of, placed}
 use Rattle.image_bodies.specs.LineBody.{sort_at, sorted_by}
 use Rattle.image.specs.Decode.{sizes_of, decoded}
-use Rattle.image.specs.declared.decode.Decoded.TheVariants.{Sound}
 use Rattle.image_meaning.specs.Formulas.{formula}
 use Rattle.image_meaning.specs.Certificate.{left, right, saying, line_of, line_body}
 use Rattle.image_meaning.specs.Image.{claim_body, claim_place, named_line, image_of}
@@ -42,6 +41,7 @@ use Rattle.source_agrees.specs.SourceOf as SourceOf
 use Rattle.source_agrees.proofs.ImageWritten.{doc}
 use Rattle.source_agrees.proofs.FormulasMean.{assertion_same}
 use Rattle.source_agrees.proofs.MeaningAgrees.{l, D, t, k, threads_are, listed_is, get_d_map, alike, outlines_alike}
+use Rattle.std.specs.Prelude.{Ok}
 
 -- a part of a list, member by member
 part_at : (i n : ℕ) (m : List (List ℕ)) (j : ℕ) → j < n → get_or (part i n m) j [] ≡ get_or m (i + j) []
@@ -51,7 +51,7 @@ as-interval : (p : ℕ) (x : Tree) → p ≡ 2 → as_interval (Place.sort_at p)
 unfolding as_interval
 as-interval p x e = subst (λ (q : ℕ). as_interval (Place.sort_at q) (of_tree (Place.sort_at q) x) ≡ of_tree Sort.interval x) (sym e) refl
 
-module _ (s : List ℕ) (z : Sizes) (bs : Bytes s) (ok : decoded s ≡ Sound z) where
+module _ (s : List ℕ) (z : Sizes) (bs : Bytes s) (ok : decoded s ≡ Ok z) where
   abbrev m : List (List ℕ)
   m = l s z bs ok
 

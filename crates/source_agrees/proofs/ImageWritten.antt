@@ -27,7 +27,6 @@ use Rattle.image_bodies.specs.RecordPlaces.{thread_body}
 use Rattle.image_bodies.specs.PointCounts.{point_counts_to, point_counts, thread_counts}
 use Rattle.image_bodies.specs.ThreadBody as Threads
 use Rattle.image.specs.Decode.{sizes_of, decoded}
-use Rattle.image.specs.declared.decode.Decoded.TheVariants.{Sound}
 use Rattle.image_meaning.proofs.Sums.{flat_append}
 use Rattle.image_meaning.proofs.PassedChecks.{unless_passed, also_passed}
 use Rattle.image_meaning.proofs.RecordsChecked.{Checks, header_passed, thread_passed}
@@ -47,6 +46,7 @@ use Rattle.source.proofs.PrefixForm.{formula_encode}
 use Rattle.source_agrees.specs.SourceOf.{listed_of, threads_of, line_of, claim_of, source_of}
 use Rattle.source_agrees.proofs.DocumentWritten.{twos_same, line_same, claim_same, framed_same, alike, mapped, total, outline_same, threads_same}
 use Rattle.source_agrees.proofs.HeaderWritten.{header_same}
+use Rattle.std.specs.Prelude.{Ok}
 
 each_left : {A : Type 0} (F : A → Type 0) (d : A) (l m : List A) → Each F d (l ++ m) → Each F d l
 each_left F d [] m h i b = absurd (omega arith)
@@ -84,7 +84,7 @@ encode_is D = simp flat_append
 short : (n : ℕ) → n < 9 → Short n
 short n h = omega arith
 
-module _ (s : List ℕ) (z : Sizes) (bs : Bytes s) (ok : decoded s ≡ Sound z) where
+module _ (s : List ℕ) (z : Sizes) (bs : Bytes s) (ok : decoded s ≡ Ok z) where
   abbrev pub l : List (List ℕ)
   l = bodies s
 

@@ -25,7 +25,6 @@ use Rattle.image_bodies.specs.PointCounts.{point_counts_to}
 use Rattle.image_bodies.specs.ThreadBody as Threads
 use Rattle.image_bodies.specs.ThreadBody.{sorted}
 use Rattle.image.specs.Decode.{sizes_of, decoded}
-use Rattle.image.specs.declared.decode.Decoded.TheVariants.{Sound}
 use Rattle.image_meaning.specs.Program as Content
 use Rattle.image_meaning.proofs.PassedChecks.{unless_passed, also_passed}
 use Rattle.image_meaning.proofs.RecordsChecked.{Checks, header_passed, thread_passed}
@@ -45,6 +44,7 @@ use Rattle.source_agrees.proofs.FormulasMean.{assertion_same, instr_same}
 use Rattle.source_agrees.proofs.SourceLookUps.{before, thread_from, thread_found, point_found, assertion_found, points_count, cleared_found}
 use Rattle.source_agrees.proofs.HeaderWritten.{marks_even}
 use Rattle.source_agrees.proofs.ImageWritten.{threads_length, doc, c, many, tallied, header_written, all_ranged, points_total}
+use Rattle.std.specs.Prelude.{Ok}
 
 pub get_d_map : {A B : Type 0} (f : A → B) (m : List A) (k : ℕ) (d : B) (e : A) → k < length m → get_or (map f m) k d ≡ f (get_or m k e)
 get_d_map f [] k d e h = absurd (omega arith)
@@ -57,7 +57,7 @@ before_within [] u h = absurd (omega arith)
 before_within (is ∷ r) zero h = omega arith
 before_within (is ∷ r) (suc u) h = omega (arith, before_within r u (omega arith))
 
-module _ (s : List ℕ) (z : Sizes) (bs : Bytes s) (ok : decoded s ≡ Sound z) where
+module _ (s : List ℕ) (z : Sizes) (bs : Bytes s) (ok : decoded s ≡ Ok z) where
   abbrev pub l : List (List ℕ)
   l = bodies s
 

@@ -9,7 +9,6 @@ use Rattle.logic.specs.Claims.{Claim, NeverBoth}
 use Rattle.image_frames.specs.Records.{bodies}
 use Rattle.image_header.specs.declared.sizes.Sizes.{Sizes}
 use Rattle.image.specs.Decode.{decoded}
-use Rattle.image.specs.declared.decode.Decoded.TheVariants.{Sound}
 use Rattle.image_meaning.specs.Program as Content
 use Rattle.image_meaning.specs.Image.{claim_in, claim_body}
 use Rattle.image_meaning.proofs.WellFormedProgram.{well-formed}
@@ -24,6 +23,7 @@ use Rattle.source_agrees.specs.SourceOf.{claim_of, source_of}
 use Rattle.source_agrees.proofs.PointsThere.{points_there}
 use Rattle.source_agrees.proofs.ImageWritten.{c, written_document}
 use Rattle.source_agrees.proofs.MeaningAgrees.{every_run, never_both}
+use Rattle.std.specs.Prelude.{Ok}
 
 -- of each member, by its place
 pub all_of : (F : Claim → Type 0) (bs : List (List ℕ)) → Each (λ (b : List ℕ). F (claim_in b)) [] bs
@@ -32,7 +32,7 @@ unfolding claim_record
 all_of F [] h = tt
 all_of F (b ∷ bs) h = (h 0 (omega arith), all_of F bs (λ i a. h (suc i) (omega arith)))
 
-module _ (s : List ℕ) (z : Sizes) (bs : Bytes s) (ok : decoded s ≡ Sound z) where
+module _ (s : List ℕ) (z : Sizes) (bs : Bytes s) (ok : decoded s ≡ Ok z) where
   abbrev t : Source
   t = source_of (document_of z (bodies s))
 

@@ -29,7 +29,6 @@ use Rattle.image_bodies.specs.RecordPlaces.{thread_body}
 use Rattle.image_bodies.specs.ThreadBody.{owned, result_absent, thread_registers}
 use Rattle.image_bodies.specs.ThreadBody as Threads
 use Rattle.image.specs.Decode.{sizes_of, decoded}
-use Rattle.image.specs.declared.decode.Decoded.TheVariants.{Sound}
 use Rattle.image_meaning.specs.Formulas.{formula}
 use Rattle.image_meaning.specs.Image.{claim_in, claim_body}
 use Rattle.image_meaning.specs.Program as Content
@@ -53,6 +52,7 @@ use Rattle.source_agrees.proofs.ImageWritten.{many, doc}
 use Rattle.source_agrees.proofs.MeaningAgrees.{l, D, t, k, threads_are, words_are, thread_is, thread_found_is, points_are, listed_is, number_is, sorted_at, by_number}
 use Rattle.source_agrees.proofs.InstructionInRange.{Passes, is_sorted, proper_in}
 use Rattle.source_agrees.proofs.PromiseOfSource.{all_of}
+use Rattle.std.specs.Prelude.{Ok}
 
 -- each member of a list that passes
 all_within : (lo hi : ℕ) (m : List ℕ) → every (within lo hi) m ≡ true → All (λ x. (lo ≤ x) × (x ≤ hi)) m
@@ -82,7 +82,7 @@ assertions_count ps a =
     length-append (map (λ (p : Point). p.assertion) ps) (a ∷ [])
     ∙ ap (λ (n : ℕ). n + 1) (length-map ps (λ (p : Point). p.assertion))
 
-module _ (s : List ℕ) (z : Sizes) (bs : Bytes s) (ok : decoded s ≡ Sound z) where
+module _ (s : List ℕ) (z : Sizes) (bs : Bytes s) (ok : decoded s ≡ Ok z) where
   abbrev b : List (List ℕ)
   b = l s z bs ok
 

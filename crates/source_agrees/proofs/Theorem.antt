@@ -9,9 +9,7 @@ use Rattle.logic_outline.specs.Verdict.{Image}
 use Rattle.image_frames.specs.Records.{bodies}
 use Rattle.image_frames.specs.declared.fault.Fault.{Fault}
 use Rattle.image_header.specs.declared.sizes.Sizes.{Sizes}
-use Rattle.image.specs.Decode.{decoded}
-use Rattle.image.specs.declared.decode.Decoded.{Decoded}
-use Rattle.image.specs.declared.decode.Decoded.TheVariants.{Refused, Sound}
+use Rattle.image.specs.Decode.{decoded, Decoded}
 use Rattle.image_meaning.specs.Image.{refused, read, image_of, result_of, decode}
 use Rattle.trim_spec.specs.Canonical.{Bytes}
 use Rattle.trim_spec.specs.Parse.{document_of}
@@ -25,6 +23,7 @@ use Rattle.source_agrees.proofs.ImageWritten.{written_document}
 use Rattle.source_agrees.proofs.PromiseOfSource.{true_for_source, claims_for_source}
 use Rattle.source_agrees.proofs.SourceInRange.{in_range}
 use Rattle.source_agrees.proofs.CertificateAgrees.{means}
+use Rattle.std.specs.Prelude.{Ok, Err}
 
 refused_read : (f : Fault) (i : ℕ) (D : Image) → refused f i ≡ read D → ⊥
 refused_read f i D e = let q : ◌≡◌ {A = ℕ} 0 1 = cc in omega arith
@@ -34,7 +33,7 @@ abbrev pub TrueContent : Image → Type 0
 TrueContent D = EveryRun D.program D.outline × ((i : ℕ) → i < D.claims.count → NeverBoth D.program (D.claims.claim i))
 
 -- the one source of a sound image
-pub sound_true : (s : List ℕ) (z : Sizes) → Bytes s → decoded s ≡ Sound z → TrueContent (image_of z (bodies s)) → TrueFor s
+pub sound_true : (s : List ℕ) (z : Sizes) → Bytes s → decoded s ≡ Ok z → TrueContent (image_of z (bodies s)) → TrueFor s
 sound_true s z b e h =
     let t : Source = source_of (document_of z (bodies s)) in
     let r : Kept t = record {
@@ -53,8 +52,8 @@ unfolding decode
 true_for s b D e h = go (decoded s) refl e
   where
     go : (d : Decoded) → decoded s ≡ d → result_of (bodies s) d ≡ read D → TrueFor s
-    go (Refused f i) c q = absurd (refused_read f i D q)
-    go (Sound z) c q = let x : D ≡ image_of z (bodies s) = cc in sound_true s z b c (subst TrueContent x h)
+    go (Err r) c q = absurd (refused_read r.fault r.«record» D q)
+    go (Ok z) c q = let x : D ≡ image_of z (bodies s) = cc in sound_true s z b c (subst TrueContent x h)
 
 -- the source of a content: one is written as the image, and the content is what any such source means
 pub record SourceFor (image : List ℕ) (D : Image) : Type 0 where
@@ -62,7 +61,7 @@ pub record SourceFor (image : List ℕ) (D : Image) : Type 0 where
   pub bytes : written source ≡ image
   pub means : (s : Source) → written s ≡ image → Means s D
 
-pub sound_means : (s : List ℕ) (z : Sizes) → Bytes s → decoded s ≡ Sound z → SourceFor s (image_of z (bodies s))
+pub sound_means : (s : List ℕ) (z : Sizes) → Bytes s → decoded s ≡ Ok z → SourceFor s (image_of z (bodies s))
 sound_means s z b e =
     let t : Source = source_of (document_of z (bodies s)) in
     record {
@@ -77,5 +76,5 @@ unfolding decode
 source_for s b D e = go (decoded s) refl e
   where
     go : (d : Decoded) → decoded s ≡ d → result_of (bodies s) d ≡ read D → SourceFor s D
-    go (Refused f i) c q = absurd (refused_read f i D q)
-    go (Sound z) c q = let x : image_of z (bodies s) ≡ D = cc in subst (SourceFor s) x (sound_means s z b c)
+    go (Err r) c q = absurd (refused_read r.fault r.«record» D q)
+    go (Ok z) c q = let x : image_of z (bodies s) ≡ D = cc in subst (SourceFor s) x (sound_means s z b c)

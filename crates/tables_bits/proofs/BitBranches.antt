@@ -8,7 +8,7 @@ use native.Mathlib.Numerals.{add-one}
 use native.Mathlib.Nat.{one-mul, mod-eq_of_lt}
 use lib.Pow.{pow-lt, pow_mono, pow_pos}
 use lib.Bits.{bit_and, bit_or, bit_xor, and_mask}
-use lib.ListN.{length, get_or, set, take, drop}
+use lib.ListN.{length, get_or}
 use lib.Seq.{take_all}
 use lib.Dec.{T, eqb}
 use borrow.Author.Tests.{eq-eqb, ne_eqb, lt-ltb, le-ltb}
@@ -16,8 +16,8 @@ use Rattle.semantics.specs.Code
 use Rattle.semantics.specs.Code.{byte}
 use Rattle.logic.specs.Rows.{all_below}
 use Rattle.logic.proofs.Rows.{all_below_at}
-use Rattle.tables_columns.specs.Column.{column, constant}
-use Rattle.tables_columns.proofs.ColumnBranches.{column_begin, column_more, column_end, rest_more, rest_at}
+use Rattle.tables_columns.specs.Column.{column, Zipped}
+use Rattle.tables_columns.proofs.ColumnBranches.{column_begins}
 use Rattle.tables_bits.specs.Bits.{ones, patterns, word_of, words_of, deny_word, deny_words, leaf_word, leaf_words, mask_of, none_set}
 
 -- a node's word
@@ -63,68 +63,17 @@ module _ (c o a b : ℕ) where
 pub ruleset combine_word_branches = (word_true, word_else, word_not, word_and, word_or, word_both, word_either, word_holds, word_other)
 
 -- all of them
-whole : (f : ℕ → ℕ) (a : List ℕ) (i : ℕ) → i ≤ 16 → 16 ≤ i → length a ≡ 16 → take i a ≡ column f i → a ≡ column f 16
-whole f a i h k l e = sym (take_all 16 a (omega arith)) ∙ column_end f a i 16 h k e
+pub column_is : (f : ℕ → ℕ) (n : ℕ) (a : List ℕ) → length a ≡ n → ((i : ℕ) → i < n → get_or a i 0 ≡ f i) → a ≡ column f n
+column_is f n a l e = sym (take_all n a (omega arith)) ∙ column_begins f n a (omega arith) e
 
-module _ (c o : ℕ) (a₀ b a : List ℕ) where
-  abbrev made : ℕ → ℕ
-  made w = word_of c o (get_or a₀ w 0) (get_or b w 0)
-
-  pub zip_begin : take 0 a ≡ words_of c o 0 a₀ b
+module _ (a b l : List ℕ) (h : length l ≡ 16) (P : ℕ → ℕ → ℕ → Type 0) (z : Zipped P 16 a b l) where
+  pub zip_words : (c o : ℕ) → ((x y r : ℕ) → P x y r → r ≡ word_of c o x y) → l ≡ words_of c o 16 a b
   unfolding words_of
-  zip_begin = column_begin made a
+  zip_words c o f = column_is (λ (w : ℕ). word_of c o (get_or a w 0) (get_or b w 0)) 16 l h (λ i k. f _ _ _ (z.at 0 i k))
 
-  module _ (i : ℕ) (e : take i a ≡ words_of c o i a₀ b) (l : length a ≡ 16) where
-    pub zip_more : (x : ℕ) → i < 16 → drop i a ≡ drop i a₀ → x ≡ word_of c o (get_or a i 0) (get_or b i 0)
-        → take (i + 1) (set a i x) ≡ words_of c o (i + 1) a₀ b
-    unfolding words_of
-    zip_more x h d f = column_more made a a i 16 x h (omega arith) refl e (f ∙ ap (λ (n : ℕ). word_of c o n (get_or b i 0)) (rest_at a a₀ i d))
-
-    pub zip_end : i ≤ 16 → 16 ≤ i → a ≡ words_of c o 16 a₀ b
-    unfolding words_of
-    zip_end h k = whole made a i h k l e
-
-pub ruleset zip_words_branches = (zip_begin, zip_more, zip_end, rest_more)
-
--- a code that was named in the call
-pub named : (c k o : ℕ) (a₀ b a : List ℕ) → c ≡ k → a ≡ words_of k o 16 a₀ b → a ≡ words_of c o 16 a₀ b
-named c k o a₀ b a e h = h ∙ ap (λ (m : ℕ). words_of m o 16 a₀ b) (sym e)
-
-module _ (a₀ b a : List ℕ) where
-  abbrev kept : ℕ → ℕ
-  kept w = deny_word (get_or a₀ w 0) (get_or b w 0)
-
-  pub deny_begin : take 0 a ≡ deny_words 0 a₀ b
+  pub zip_denied : ((x y r : ℕ) → P x y r → r ≡ deny_word x y) → l ≡ deny_words 16 a b
   unfolding deny_words
-  deny_begin = column_begin kept a
-
-  module _ (i : ℕ) (e : take i a ≡ deny_words i a₀ b) (l : length a ≡ 16) where
-    pub deny_more : (x : ℕ) → i < 16 → drop i a ≡ drop i a₀ → x ≡ deny_word (get_or a i 0) (get_or b i 0)
-        → take (i + 1) (set a i x) ≡ deny_words (i + 1) a₀ b
-    unfolding deny_words
-    deny_more x h d f = column_more kept a a i 16 x h (omega arith) refl e (f ∙ ap (λ (n : ℕ). deny_word n (get_or b i 0)) (rest_at a a₀ i d))
-
-    pub deny_end : i ≤ 16 → 16 ≤ i → a ≡ deny_words 16 a₀ b
-    unfolding deny_words
-    deny_end h k = whole kept a i h k l e
-
-pub ruleset deny_words_branches = (deny_begin, deny_more, deny_end, rest_more)
-
-module _ (x : ℕ) (a : List ℕ) where
-  pub fill_begin : take 0 a ≡ constant x 0
-  unfolding constant
-  fill_begin = column_begin (λ (w : ℕ). x) a
-
-  module _ (i : ℕ) (e : take i a ≡ constant x i) (l : length a ≡ 16) where
-    pub fill_more : i < 16 → take (i + 1) (set a i x) ≡ constant x (i + 1)
-    unfolding constant
-    fill_more h = column_more (λ (w : ℕ). x) a a i 16 x h (omega arith) refl e refl
-
-    pub fill_end : i ≤ 16 → 16 ≤ i → a ≡ constant x 16
-    unfolding constant
-    fill_end h k = whole (λ (w : ℕ). x) a i h k l e
-
-pub ruleset fill_words_branches = (fill_begin, fill_more, fill_end)
+  zip_denied f = column_is (λ (w : ℕ). deny_word (get_or a w 0) (get_or b w 0)) 16 l h (λ i k. f _ _ _ (z.at 0 i k))
 
 -- a leaf's words
 module _ (j : ℕ) where
@@ -163,21 +112,9 @@ pub ruleset first_word_branches = (first_0, first_1, first_2, first_3, first_4, 
 
 pub ruleset leaf_word_branches = (leaf_low, leaf_set, leaf_clear)
 
-module _ (j : ℕ) (a : List ℕ) where
-  pub leaf_begin : take 0 a ≡ leaf_words j 0
-  unfolding leaf_words
-  leaf_begin = column_begin (leaf_word j) a
-
-  module _ (i : ℕ) (e : take i a ≡ leaf_words j i) (l : length a ≡ 16) where
-    pub leaf_more : (x : ℕ) → i < 16 → x ≡ leaf_word j i → take (i + 1) (set a i x) ≡ leaf_words j (i + 1)
-    unfolding leaf_words
-    leaf_more x h f = column_more (leaf_word j) a a i 16 x h (omega arith) refl e f
-
-    pub leaf_end : i ≤ 16 → 16 ≤ i → a ≡ leaf_words j 16
-    unfolding leaf_words
-    leaf_end h k = whole (leaf_word j) a i h k l e
-
-pub ruleset leaf_words_branches = (leaf_begin, leaf_more, leaf_end)
+pub leaf_words_are : (j : ℕ) (a : List ℕ) → length a ≡ 16 → ((i : ℕ) → i < 16 → get_or a i 0 ≡ leaf_word j i) → a ≡ leaf_words j 16
+unfolding leaf_words
+leaf_words_are j a l e = column_is (leaf_word j) 16 a l e
 
 -- two values for each leaf
 module _ (k : ℕ) (h : k ≤ 10) where
@@ -240,7 +177,4 @@ module _ (a : List ℕ) (n : ℕ) where
       go true e = absurd (subst T no (all_below_at 16 clear (subst T (sym e) tt) w h))
       go false e = refl
 
-  pub none_end : (w : ℕ) → w ≤ 16 → 16 ≤ w → none_set a n w ≡ true → true ≡ none_set a n 16
-  none_end w h k e = let q : w ≡ 16 = omega arith in sym e ∙ ap (none_set a n) q
-
-pub ruleset none_set_branches = (none_begin, none_more, none_miss, none_end)
+pub ruleset none_set_branches = (none_begin, none_more, none_miss)

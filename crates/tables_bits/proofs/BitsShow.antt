@@ -13,7 +13,8 @@ use Rattle.semantics.specs.Code
 use Rattle.semantics.specs.Code.{byte}
 use Rattle.formula.specs.Codes.{member}
 use Rattle.formula.specs.Tree.{Tree, none, node}
-use Rattle.tables_columns.specs.Slots.{slots, numbers, slot_of}
+use Rattle.tables_columns.specs.Slots.{slots, nth, slot_of}
+use Rattle.tables_columns.specs.declared.slot.Slot.{Slot}
 use Rattle.tables_columns.proofs.GatherBranches.{slot_later}
 use Rattle.tables_columns.specs.Combine.{combine}
 use Rattle.tables_columns.specs.Column.{constant}
@@ -27,7 +28,7 @@ use Rattle.tables_bits.proofs.BitFacts.{flag, bit_ones, bit_none, flag_not, flag
 use Rattle.tables_bits.specs.TruthTable.{by_leaves, Later, Shows, LeafBits, TreeBits}
 
 -- slots that come later
-pub shows_later : (f : List ℕ → List ℕ → Bool) (n m : ℕ) (q q₂ a : List ℕ) → n ≤ m → ((j : ℕ) → j < n → numbers q₂ j ≡ numbers q j)
+pub shows_later : (f : List Slot → List ℕ → Bool) (n m : ℕ) (q q₂ : List Slot) (a : List ℕ) → n ≤ m → ((j : ℕ) → j < n → nth q₂ j ≡ nth q j)
     → Shows n q f a → Shows m q₂ f a
 unfolding Shows
 shows_later f n m q q₂ a l same h x w i hw hi hr = h back w i hw hi hr
@@ -45,7 +46,7 @@ shows_later f n m q q₂ a l same h x w i hw hi hr = h back w i hw hi hr
     }
 
 -- more slots than there may be show anything
-pub shows_over : (f : List ℕ → List ℕ → Bool) (n : ℕ) (q a : List ℕ) → 10 < n → Shows n q f a
+pub shows_over : (f : List Slot → List ℕ → Bool) (n : ℕ) (q : List Slot) (a : List ℕ) → 10 < n → Shows n q f a
 unfolding Shows
 shows_over f n q a h x w i hw hi hr = absurd (let k = x.more in let l = x.few in omega arith)
 
@@ -55,7 +56,7 @@ flag_is (suc zero) h = refl
 flag_is (suc (suc v)) h = absurd (omega arith)
 
 -- a leaf has the digits of its slot
-pub leaf_shows : (s : List ℕ) (n : ℕ) (q : List ℕ) (t : Tree) (j : ℕ) → j < n → slot_of s q t ≡ j → LeafBits s n q t (leaf_words j 16)
+pub leaf_shows : (s : List ℕ) (n : ℕ) (q : List Slot) (t : Tree) (j : ℕ) → j < n → slot_of s q t ≡ j → LeafBits s n q t (leaf_words j 16)
 unfolding LeafBits Shows leaf_words value_in row_in
 leaf_shows s n q t j h e x w i hw hi hr =
     ap (λ (y : ℕ). bit y i) (column_get_d (leaf_word j) 0 16 w hw) ∙ leaf_bit j w i few hw hi ∙ flag_is (bit r j) (mod-lt _ (omega arith))
@@ -134,7 +135,7 @@ node_bit c o i a b x y hi h ea eb =
     go false false false false false false false = bit_none i
 
 -- the value of a node, a leaf or not
-module _ (s p v : List ℕ) (c o : ℕ) (l r : Tree) where
+module _ (s : List ℕ) (p : List Slot) (v : List ℕ) (c o : ℕ) (l r : Tree) where
   value_leaf : member by_leaves.leaves c ≡ true → row_value s by_leaves p v (node c o l r) ≡ value_in v (slot_of s p (node c o l r))
   value_leaf e = value_node s by_leaves p v c o l r ∙ rw e
 
@@ -143,7 +144,7 @@ module _ (s p v : List ℕ) (c o : ℕ) (l r : Tree) where
   value_inner e = value_node s by_leaves p v c o l r ∙ rw e
 
 -- of trees
-module _ (s : List ℕ) (n : ℕ) (q : List ℕ) where
+module _ (s : List ℕ) (n : ℕ) (q : List Slot) where
   pub tree_none : TreeBits s n q none (constant 0 16)
   unfolding TreeBits Shows constant
   tree_none x w i hw hi hr = ap (λ (y : ℕ). bit y i) (column_get_d (λ (w : ℕ). 0) 0 16 w hw) ∙ bit_none i
@@ -168,7 +169,7 @@ module _ (s : List ℕ) (n : ℕ) (q : List ℕ) where
         v = row_in x.lasts (64 * w + i)
 
 -- a node without parts
-pub tree_plain : (s : List ℕ) (n : ℕ) (q : List ℕ) (c o : ℕ) → member by_leaves.leaves c ≡ false
+pub tree_plain : (s : List ℕ) (n : ℕ) (q : List Slot) (c o : ℕ) → member by_leaves.leaves c ≡ false
     → TreeBits s n q (node c o none none) (constant (word_of c o 0 0) 16)
 unfolding TreeBits Shows constant
 tree_plain s n q c o e x w i hw hi hr =
@@ -183,7 +184,7 @@ tree_plain s n q c o e x w i hw hi hr =
     nothing = bit_none i ∙ ap (λ (v : ℕ). flag (eqb v 1)) (sym (value_none s by_leaves x.slots v))
 
 -- words that are all 0 show nothing
-pub tree_zeros : (s : List ℕ) (n : ℕ) (q : List ℕ) → TreeBits s n q none (replicate 16 0)
+pub tree_zeros : (s : List ℕ) (n : ℕ) (q : List Slot) → TreeBits s n q none (replicate 16 0)
 unfolding TreeBits Shows
 tree_zeros s n q x w i hw hi hr = ap (λ (y : ℕ). bit y i) (zeros 16 w) ∙ bit_none i
     ∙ ap (λ (v : ℕ). flag (eqb v 1)) (sym (value_none s by_leaves x.slots (row_in x.lasts (64 * w + i))))

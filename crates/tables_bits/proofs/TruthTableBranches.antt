@@ -11,11 +11,11 @@ use Rattle.formula.specs.Codes.{member}
 use Rattle.formula.specs.Tree.{Tree, none, node_at, parse_tree, ParsedTree, grow}
 use Rattle.formula.specs.declared.node.Node.{Node}
 use Rattle.formula.proofs.NodeBranches.{parse_zero, parse_step}
-use Rattle.limits.proofs.BranchTests.{lower}
+use Rattle.limits.proofs.BranchTests.{lower, tests}
 use Rattle.tables_columns.specs.Slots.{slots, leaf_slot, slot_of, slot_within}
 use Rattle.tables_columns.specs.Gather.{put_t, view, count_put, slot_put}
 use Rattle.tables_columns.specs.declared.slot.Slot.{Slot}
-use Rattle.tables_columns.proofs.GatherBranches.{put_over, put_there, put_new, put_length, numbers_put, slot-put, gathers}
+use Rattle.tables_columns.proofs.GatherBranches.{put_over, put_there, put_new, put_length, nth_put, slot-put, gathers}
 use Rattle.tables_columns.specs.Column.{constant}
 use Rattle.tables_columns.proofs.ColumnLists.{column_length}
 use Rattle.tables_bits.specs.Bits.{word_of, words_of, leaf_word, leaf_words}
@@ -40,7 +40,7 @@ pub plain_filled : (c o v : ℕ) (a : List ℕ) → v ≡ word_of c o 0 0 → a 
 plain_filled c o v a e f = f ∙ ap (λ (x : ℕ). constant x 16) e
 
 -- a leaf
-module _ (s : List ℕ) (at left n : ℕ) (q a : List ℕ) (some : 0 < left) where
+module _ (s : List ℕ) (at left n : ℕ) (q : List Slot) (a : List ℕ) (some : 0 < left) where
   abbrev tree : Tree
   tree = (parse_tree s left at).tree
 
@@ -56,7 +56,7 @@ module _ (s : List ℕ) (at left n : ℕ) (q a : List ℕ) (some : 0 < left) whe
     unfolding LeafBits
     over_bits = shows_over _ n q a (omega arith)
 
-  pub over_grown : length q ≡ 36 → length a ≡ 16 → Grown n q n q a
+  pub over_grown : length q ≡ 12 → length a ≡ 16 → Grown n q n q a
   over_grown l k = record { more = omega arith; same = λ j h. refl; long = l; wide = k }
 
   module _ (j : ℕ) (ej : j ≡ slot_within s q n (parse_tree s left at).tree) where
@@ -65,7 +65,7 @@ module _ (s : List ℕ) (at left n : ℕ) (q a : List ℕ) (some : 0 < left) whe
     found_view h l = put_there s at left n q j not_zero h ej l
 
     -- a new one
-    module _ (p : Slot) (m : ℕ) (q₂ : List ℕ) (em : m ≡ count_put n) (eq : q₂ ≡ slot_put n p q) (l : length q ≡ 36) (h : n ≤ slots) where
+    module _ (p : Slot) (m : ℕ) (q₂ : List Slot) (em : m ≡ count_put n) (eq : q₂ ≡ slot_put n p q) (l : length q ≡ 12) (h : n ≤ slots) where
       pub new_view : n ≤ j → p ≡ leaf_slot s at left → view s m q₂ ≡ put_t (parse_tree s left at).tree (view s n q)
       new_view k ep = put_new s at left n q j not_zero h ej p m q₂ l k ep em eq
 
@@ -73,7 +73,7 @@ module _ (s : List ℕ) (at left n : ℕ) (q a : List ℕ) (some : 0 < left) whe
       unfolding count_put
       new_grown ea = record {
         more = more (ltb n slots) refl;
-        same = numbers_put n p q q₂ eq;
+        same = nth_put n p q q₂ eq;
         long = put_length n p q q₂ l eq;
         wide = wide_leaf a j ea;
       }
@@ -96,14 +96,14 @@ module _ (s : List ℕ) (at left n : ℕ) (q a : List ℕ) (some : 0 < left) whe
 
     -- its words
     module _ (ea : a ≡ leaf_words j 16) where
-      pub found_grown : length q ≡ 36 → Grown n q n q a
+      pub found_grown : length q ≡ 12 → Grown n q n q a
       found_grown l = record { more = omega arith; same = λ j h. refl; long = l; wide = wide_leaf a j ea }
 
       pub found_bits : j < n → LeafBits s n q (parse_tree s left at).tree a
       unfolding slot_within
       found_bits l = subst (LeafBits s n q tree) (sym ea) (leaf_shows s n q tree j l (omega arith))
 
-pub within_slots : (s q : List ℕ) (n j : ℕ) (t : Tree) → j ≡ slot_within s q n t → n ≤ 12 → j < 64
+pub within_slots : (s : List ℕ) (q : List Slot) (n j : ℕ) (t : Tree) → j ≡ slot_within s q n t → n ≤ 12 → j < 64
 unfolding slot_within
 within_slots s q n j t e h = omega arith
 
@@ -114,15 +114,15 @@ pub ruleset leaf_bits_growing = (over_grown, found_grown, new_grown)
 pub ruleset leaf_bits_showing = (over_bits, found_bits, new_bits)
 
 -- what is not changed, and what grows
-module _ (n : ℕ) (q a : List ℕ) where
-  pub grown_none : (x : ℕ) → length q ≡ 36 → a ≡ constant x 16 → Grown n q n q a
+module _ (n : ℕ) (q : List Slot) (a : List ℕ) where
+  pub grown_none : (x : ℕ) → length q ≡ 12 → a ≡ constant x 16 → Grown n q n q a
   grown_none x l e = record { more = omega arith; same = λ j h. refl; long = l; wide = wide_constant a x e }
 
-  module _ (c o m : ℕ) (q₂ a₁ b : List ℕ) (e : a ≡ words_of c o 16 a₁ b) where
+  module _ (c o m : ℕ) (q₂ : List Slot) (a₁ b : List ℕ) (e : a ≡ words_of c o 16 a₁ b) where
     pub grown_one : Grown n q m q₂ a₁ → Grown n q m q₂ a
     grown_one g = record { more = g.more; same = g.same; long = g.long; wide = wide_node a c o a₁ b e }
 
-    pub grown_two : (m₂ : ℕ) (q₃ : List ℕ) → Grown n q m q₂ b → Grown m q₂ m₂ q₃ a₁ → Grown n q m₂ q₃ a
+    pub grown_two : (m₂ : ℕ) (q₃ : List Slot) → Grown n q m q₂ b → Grown m q₂ m₂ q₃ a₁ → Grown n q m₂ q₃ a
     grown_two m₂ q₃ g h = record {
       more = let k = g.more in let l = h.more in
           omega arith;
@@ -135,7 +135,7 @@ module _ (n : ℕ) (q a : List ℕ) where
 pub ruleset table_at_grows = (grown_none, grown_one, grown_two)
 
 -- the bits of a formula
-module _ (s : List ℕ) (k at n : ℕ) (q a : List ℕ) where
+module _ (s : List ℕ) (k at n : ℕ) (q : List Slot) (a : List ℕ) where
   pub bits_none : k ≡ 0 → a ≡ constant 0 16 → TreeBits s n q (parse_tree s k at).tree a
   bits_none z e = rw (e, parse_zero s k at z) (tree_none s n q)
 
@@ -156,7 +156,7 @@ module _ (s : List ℕ) (k at n : ℕ) (q a : List ℕ) where
           (tree_node s n q x.code x.operand (parse_tree s (k - 1) x.next).tree none a₁ (replicate 16 0) (sym eb ∙ d) h
           (tree_zeros s n q))
 
-      pub bits_two : (y m : ℕ) (q₂ a₁ c : List ℕ) → (x.parts ≡ 0 → ⊥) → (x.parts ≡ 1 → ⊥) → y ≡ (parse_tree s (k - 1) x.next).end
+      pub bits_two : (y m : ℕ) (q₂ : List Slot) (a₁ c : List ℕ) → (x.parts ≡ 0 → ⊥) → (x.parts ≡ 1 → ⊥) → y ≡ (parse_tree s (k - 1) x.next).end
           → TreeBits s m q₂ (parse_tree s (k - 1) y).tree c → Grown m q₂ n q a₁ → TreeBits s n q (parse_tree s (k - 1) x.next).tree a₁
           → a ≡ words_of x.code x.operand 16 a₁ c
           → TreeBits s n q (parse_tree s k at).tree a
@@ -171,3 +171,5 @@ module _ (s : List ℕ) (k at n : ℕ) (q a : List ℕ) where
 pub ruleset table_at_bits = (bits_none, bits_leaf, bits_plain, bits_one, bits_two)
 
 pub ruleset table_at_walks = (gathers, lower)
+
+pub ruleset table_at_branches = (table_at_walks, table_at_grows, table_at_bits, tests)

@@ -1,5 +1,5 @@
 // The truth table of a formula: a bit for each row. Formulas are walked from right to left, as leaves are gathered.
-ghost use Rattle.std.specs.Prelude.{◌≡◌, ◌<◌, length, replicate};
+ghost use Rattle.std.specs.Prelude.{◌≡◌, ◌<◌, replicate};
 ghost use Rattle.formula.specs.Tree.{parse_tree};
 ghost use Rattle.tables_columns.specs.Gather.{view, put_t, gather_t};
 ghost use Rattle.tables_columns.specs.Column.{constant};
@@ -11,7 +11,7 @@ use formula::code::{Code, contains};
 use formula::end::end_at;
 use formula::node::node_at;
 use tables_columns::gather::put_slot;
-use tables_columns::slot::{Slots, leaf_slot, slot_within};
+use tables_columns::slot::{Slot, Slots, leaf_slot, slot_within};
 
 // The codes that count as leaves of a truth table.
 #[derive(Drop)]
@@ -29,16 +29,20 @@ impl TableCodes {
         + (1 << Code::SUM);
 }
 
+// `at` and `left` change separately at each step of a recursion, so a struct of them would be taken apart in every call.
+// Slots and tables are two buffers that are lent to each call, and the number of slots is what it returns.
+
 // Writes the table of the leaf at `at`, and adds the leaf unless one of the first `n` slots has it; returns the number of leaves then.
+#[tactic(auto, using(crate::proofs::TruthTableBranches::within_slots))]
 pub fn leaf_bits(
     image: &[u8],
     at: usize,
     left: usize,
     n: usize,
-    slots: &mut [usize; Slots::NUMBERS],
+    slots: &mut [Slot; Slots::COUNT],
     out: &mut [u64; Words::COUNT],
 ) -> usize
-    requires { (0 < left) × ((length slots.old ≡ 36) × (length out.old ≡ 16)) }
+    requires { 0 < left }
     ensures slots_after { view image.now result slots.new ≡ put_t (parse_tree image.now left at).tree
         (view image.now n slots.old) }
     ensures grown { Grown n slots.old result slots.new out.new }
@@ -57,7 +61,6 @@ pub fn leaf_bits(
 
 // Writes the table of a node without parts, which is the same at every row.
 fn plain_bits(code: u8, operand: u8, out: &mut [u64; Words::COUNT])
-    requires { length out.old ≡ 16 }
     ensures { out.new ≡ constant (word_of code operand 0 0) 16 }
 {
     fill_words(combine_word(code, operand, 0, 0), out);
@@ -65,7 +68,6 @@ fn plain_bits(code: u8, operand: u8, out: &mut [u64; Words::COUNT])
 
 // Computes the table of a node with one part, in place of the part's.
 fn single_bits(code: u8, operand: u8, out: &mut [u64; Words::COUNT])
-    requires { length out.old ≡ 16 }
     ensures { out.new ≡ words_of code operand 16 out.old (replicate 16 0) }
 {
     let none: [u64; Words::COUNT] = [0; Words::COUNT];
@@ -73,15 +75,15 @@ fn single_bits(code: u8, operand: u8, out: &mut [u64; Words::COUNT])
 }
 
 // Writes the table of the formula at `at`, nested at most `left` deep, and adds its leaves; returns the number of leaves then.
+#[tactic(auto, using(crate::proofs::TruthTableBranches::table_at_branches))]
 pub fn table_at(
     image: &[u8],
     at: usize,
     left: usize,
     n: usize,
-    slots: &mut [usize; Slots::NUMBERS],
+    slots: &mut [Slot; Slots::COUNT],
     out: &mut [u64; Words::COUNT],
 ) -> usize
-    requires { (length slots.old ≡ 36) × (length out.old ≡ 16) }
     ensures slots_after { view image.now result slots.new ≡ gather_t by_leaves.leaves
         (parse_tree image.now left at).tree
         (view image.now n slots.old) }

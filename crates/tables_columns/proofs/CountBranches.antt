@@ -1,40 +1,43 @@
 -- Rows counted: the ways through the count, one law for each.
-use Prim.Native.Nat.{ℕ, zero, suc, ◌+◌, ◌*◌, ◌^◌, ◌≤◌, ◌<◌}
-use mathlib.Core.Path.{◌≡◌, refl, ap, ◌∙◌}
+use Prim.Native.Nat.{ℕ, zero, suc, ◌+◌, ◌*◌, ◌^◌, ◌≤◌, ◌<◌, max}
+use mathlib.Core.Path.{◌≡◌, refl, ◌∙◌}
 use mathlib.Core.List.{List, ◌∷◌}
 use mathlib.Core.Bool.{Bool, true, false}
 use native.Mathlib.Omega.{arith}
 use native.Mathlib.Nat.{mul-le-mul, one-mul}
 use lib.Dec.{ltb}
-use borrow.Author.Tests.{lt-ltb, le-ltb, eq-eqb, ne_eqb, ltb-true, ltb-false}
+use borrow.Author.Tests.{lt-ltb, le-ltb, ltb-true, ltb-false}
+use Rattle.limits.proofs.BranchTests.{tests}
 use Rattle.logic.specs.Rows.{row_count}
 use Rattle.formula.specs.Tree.{Tree, node, node_at}
 use Rattle.formula.specs.declared.node.Node.{Node}
 use Rattle.formula.proofs.NodeBranches.{parse_step}
 use Rattle.formula_compare.specs.Same.{same_tree}
-use Rattle.tables_columns.specs.Slots.{slot_tree, numbers, slot_at, kept}
+use Rattle.tables_columns.specs.Slots.{slot_tree, nth, slot_at, kept}
+use Rattle.tables_columns.proofs.SlotBranches.{plain_tree, whole_tree}
 use Rattle.tables_columns.specs.Count.{choices_by, choices_t, capped, rows_up_to}
 use Rattle.tables_columns.specs.declared.slot.Slot.{Slot}
+use Rattle.tables_columns.specs.declared.slot.Slot.TheVariants.{Plain, Whole}
 
 choices_node : (R c o : ℕ) (l r : Tree) → choices_t R (node c o l r) ≡ choices_by R c
 unfolding choices_t
 choices_node R c o l r = refl
 
-module _ (s : List ℕ) (R r : ℕ) (p : Slot) where
-  pub choices_plain : p.left ≡ 0 → r ≡ choices_by R p.place → r ≡ choices_t R (slot_tree s p)
-  unfolding slot_tree
-  choices_plain z e = rw (eq-eqb _ _ z, choices_node) e
+module _ (s : List ℕ) (R r : ℕ) where
+  pub choices_plain : (c o : ℕ) → r ≡ choices_by R c → r ≡ choices_t R (slot_tree s (Plain c o))
+  choices_plain c o e = rw (plain_tree, choices_node) e
 
-  pub choices_whole : (x : Node) → (p.left ≡ 0 → ⊥) → x ≡ node_at s p.place → r ≡ choices_by R x.code → r ≡ choices_t R (slot_tree s p)
-  unfolding slot_tree
-  choices_whole x z ex e = rw (ne_eqb _ _ z, parse_step s p.left p.place z, choices_node, ← ex) e
+  pub choices_whole : (p k : ℕ) (x : Node) → x ≡ node_at s p → r ≡ choices_by R x.code → r ≡ choices_t R (slot_tree s (Whole p k))
+  choices_whole p k x ex e =
+      let z : max k 1 ≡ 0 → ⊥ = λ h. omega arith in
+      rw (whole_tree, parse_step s (max k 1) p z, choices_node, ← ex) e
 
 pub ruleset choices_branches = (choices_plain, choices_whole)
 
 pub small_product : (n r : ℕ) → n < 256 → r < 4294967296 → n * r < 2 ^ 64
 small_product n r h g = let k : n ≤ 255 = omega arith in let l : r ≤ 4294967295 = omega arith in let e = mul-le-mul k l in omega arith
 
-pub ruleset capped_product_branches = (small_product, lt-ltb, le-ltb)
+pub ruleset capped_product_branches = (small_product, tests)
 
 module _ (L : ℕ) where
   capped_low : (n r : ℕ) → n * r ≤ L → capped L n r ≡ n * r
@@ -84,12 +87,12 @@ module _ (L : ℕ) where
               let e : 1 * (n * r) ≤ L = omega (arith, one-mul (n * r)) in
               rw (capped_low n r h, capped_low 1 (n * r) e, one-mul (n * r))
 
-kept_next : (s q : List ℕ) (j : ℕ) → kept s q (j + 1) ≡ slot_at s q j ∷ kept s q j
+kept_next : (s : List ℕ) (q : List Slot) (j : ℕ) → kept s q (j + 1) ≡ slot_at s q j ∷ kept s q j
 unfolding kept
 kept_next s q j = let e : j + 1 ≡ suc j = omega arith in rw e
 
 -- the ways through `count_rows`
-module _ (s q : List ℕ) (R limit : ℕ) where
+module _ (s : List ℕ) (q : List Slot) (R limit : ℕ) where
   pub rows_begin : 1 ≡ rows_up_to s q R limit 0
   unfolding rows_up_to kept
   rows_begin = go (ltb limit 1) refl
@@ -98,13 +101,10 @@ module _ (s q : List ℕ) (R limit : ℕ) where
       go true d = let h : limit < 1 = ltb-true limit 1 d in rw (capped_high limit 1 1 h) (omega arith)
       go false d = rw (capped_low limit 1 1 (ltb-false limit 1 d))
 
-  pub rows_next : (p : Slot) (j c r r₂ : ℕ) → r ≡ rows_up_to s q R limit j → p ≡ numbers q j → c ≡ choices_t R (slot_tree s p)
+  pub rows_next : (p : Slot) (j c r r₂ : ℕ) → r ≡ rows_up_to s q R limit j → p ≡ nth q j → c ≡ choices_t R (slot_tree s p)
       → r₂ ≡ capped limit c r → r₂ ≡ rows_up_to s q R limit (j + 1)
   unfolding rows_up_to slot_at
   rows_next p j c r r₂ e ep ec f = f ∙ rw (e, ec, ep, kept_next s q j)
-      (capped_twice limit (choices_t R (slot_tree s (numbers q j))) (row_count same_tree (choices_t R) (kept s q j)))
+      (capped_twice limit (choices_t R (slot_tree s (nth q j))) (row_count same_tree (choices_t R) (kept s q j)))
 
-  pub rows_end : (j n r : ℕ) → r ≡ rows_up_to s q R limit j → j ≤ n → n ≤ j → r ≡ rows_up_to s q R limit n
-  rows_end j n r e h g = let d : j ≡ n = omega arith in e ∙ ap (rows_up_to s q R limit) d
-
-pub ruleset count_rows_branches = (rows_begin, rows_next, rows_end)
+pub ruleset count_rows_branches = (rows_begin, rows_next)

@@ -1,10 +1,10 @@
 -- Leaves gathered: what the slots hold, and the ways through the functions, one law for each.
-use Prim.Native.Nat.{ℕ, zero, suc, ◌+◌, ◌-◌, ◌*◌, ◌≤◌, ◌<◌, min}
+use Prim.Native.Nat.{ℕ, zero, suc, ◌+◌, ◌-◌, ◌≤◌, ◌<◌, min}
 use mathlib.Core.Path.{◌≡◌, refl, ap, ap₂, sym, ◌∙◌, subst}
 use mathlib.Core.List.{List, [], ◌∷◌}
 use mathlib.Core.Bool.{Bool, true, false, ◌||◌, cond}
 use native.Mathlib.Omega.{arith}
-use lib.ListN.{length, get_or, set, length-set}
+use lib.ListN.{length, set, length-set}
 use lib.Seq.{get_or-set_same, get_or-set_other}
 use lib.Dec.{ltb}
 use borrow.Author.Tests.{lt-ltb, le-ltb, ltb-true, ltb-false}
@@ -15,20 +15,21 @@ use Rattle.formula.specs.declared.node.Node.{Node}
 use Rattle.formula.proofs.NodeBranches.{parse_zero, parse_step}
 use Rattle.limits.proofs.BranchTests.{lower}
 use Rattle.formula_compare.specs.Same.{same_tree}
-use Rattle.tables_columns.specs.Slots.{slots, slot_tree, leaf_slot, numbers, slot_at, slot_from, slot_of, slot_within, kept}
+use Rattle.tables_columns.specs.Slots.{slots, slot_tree, leaf_slot, nth, slot_at, slot_from, slot_of, slot_within, kept}
 use Rattle.tables_columns.specs.Gather.{Gathered, many, keys, put_t, gather_t, view, count_put, slot_put}
 use Rattle.tables_columns.specs.declared.slot.Slot.{Slot}
+use Rattle.tables_columns.specs.declared.slot.Slot.TheVariants.{Plain}
 use Rattle.tables_columns.proofs.SlotBranches.{same_self, leaf-slot, from_zero, from_step, from_least, from_next, of_is}
 
-pub kept_none : (s q : List ℕ) → kept s q 0 ≡ []
+pub kept_none : (s : List ℕ) (q : List Slot) → kept s q 0 ≡ []
 unfolding kept
 kept_none s q = refl
 
-pub kept_step : (s q : List ℕ) (n : ℕ) → kept s q (suc n) ≡ slot_at s q n ∷ kept s q n
+pub kept_step : (s : List ℕ) (q : List Slot) (n : ℕ) → kept s q (suc n) ≡ slot_at s q n ∷ kept s q n
 unfolding kept
 kept_step s q n = refl
 
-pub kept_length : (s q : List ℕ) (n : ℕ) → length (kept s q n) ≡ n
+pub kept_length : (s : List ℕ) (q : List Slot) (n : ℕ) → length (kept s q n) ≡ n
 kept_length s q zero = rw kept_none
 kept_length s q (suc n) = rw (kept_step s q n) (ap suc (kept_length s q n))
 
@@ -41,7 +42,7 @@ unfolding is_in
 in_step t u l = refl
 
 -- a tree is among the first n if its slot is below n
-module _ (s q : List ℕ) (t : Tree) where
+module _ (s : List ℕ) (q : List Slot) (t : Tree) where
   from_skip : (n : ℕ) → n ≤ slots → n ≤ slot_of s q t → slot_of s q t ≡ slot_from s q (slots - n) n t
   from_skip zero h g = of_is s q t
   from_skip (suc n) h g = go (same_tree t (slot_at s q n)) (from_skip n (omega arith) (omega arith) ∙ from_next s q n t (omega arith))
@@ -79,57 +80,31 @@ within n a = go (ltb a n) refl
     go false e = le-ltb (min n a) n (omega (arith, ltb-false a n e)) ∙ sym e
 
 -- a slot that is written
-module _ (q : List ℕ) (n : ℕ) (p : Slot) where
-  abbrev written : List ℕ
-  written = set (set (set q (3 * n) p.place) (3 * n + 1) p.operand) (3 * n + 2) p.left
+module _ (q : List Slot) (n : ℕ) (p : Slot) where
+  abbrev written : List Slot
+  written = set q n p
 
-  other : (i : ℕ) → i < 3 * n → get_or written i 0 ≡ get_or q i 0
-  other i h =
-      get_or-set_other (set (set q (3 * n) p.place) (3 * n + 1) p.operand) (3 * n + 2) i p.left 0 (λ e. omega arith)
-      ∙ get_or-set_other (set q (3 * n) p.place) (3 * n + 1) i p.operand 0 (λ e. omega arith)
-      ∙ get_or-set_other q (3 * n) i p.place 0 (λ e. omega arith)
+  nth_other : (j : ℕ) → j < n → nth written j ≡ nth q j
+  unfolding nth
+  nth_other j h = get_or-set_other q n j p (Plain 0 0) (λ e. omega arith)
 
-  numbers_other : (j : ℕ) → j < n → numbers written j ≡ numbers q j
-  unfolding numbers
-  numbers_other j h i = record {
-    place = other (3 * j) (omega arith) i;
-    operand = other (3 * j + 1) (omega arith) i;
-    left = other (3 * j + 2) (omega arith) i;
-  }
-
-  module _ (b : 3 * n + 2 < length q) where
-    first : get_or written (3 * n) 0 ≡ p.place
-    first =
-        get_or-set_other (set (set q (3 * n) p.place) (3 * n + 1) p.operand) (3 * n + 2) (3 * n) p.left 0 (λ e. omega arith)
-        ∙ get_or-set_other (set q (3 * n) p.place) (3 * n + 1) (3 * n) p.operand 0 (λ e. omega arith)
-        ∙ get_or-set_same q (3 * n) p.place 0 (omega arith)
-
-    second : get_or written (3 * n + 1) 0 ≡ p.operand
-    second =
-        get_or-set_other (set (set q (3 * n) p.place) (3 * n + 1) p.operand) (3 * n + 2) (3 * n + 1) p.left 0 (λ e. omega arith)
-        ∙ get_or-set_same (set q (3 * n) p.place) (3 * n + 1) p.operand 0 (omega (arith, length-set q (3 * n) p.place))
-
-    third : get_or written (3 * n + 2) 0 ≡ p.left
-    third = get_or-set_same (set (set q (3 * n) p.place) (3 * n + 1) p.operand) (3 * n + 2) p.left 0
-        (omega (arith, length-set q (3 * n) p.place, length-set (set q (3 * n) p.place) (3 * n + 1) p.operand))
-
-    numbers_same : numbers written n ≡ p
-    unfolding numbers
-    numbers_same i = record { place = first i; operand = second i; left = third i }
+  nth_same : n < length q → nth written n ≡ p
+  unfolding nth
+  nth_same b = get_or-set_same q n p (Plain 0 0) b
 
   kept_other : (s : List ℕ) (m : ℕ) → m ≤ n → kept s written m ≡ kept s q m
   unfolding slot_at
   kept_other s zero h = kept_none s written ∙ sym (kept_none s q)
   kept_other s (suc m) h =
       kept_step s written m
-      ∙ ap₂ (λ (p : Slot) (l : List Tree). slot_tree s p ∷ l) (numbers_other m (omega arith)) (kept_other s m (omega arith))
+      ∙ ap₂ (λ (p : Slot) (l : List Tree). slot_tree s p ∷ l) (nth_other m (omega arith)) (kept_other s m (omega arith))
       ∙ sym (kept_step s q m)
 
-  kept_written : (s : List ℕ) → 3 * n + 2 < length q → kept s written (n + 1) ≡ slot_tree s p ∷ kept s q n
+  kept_written : (s : List ℕ) → n < length q → kept s written (n + 1) ≡ slot_tree s p ∷ kept s q n
   unfolding slot_at
   kept_written s b =
       let e : n + 1 ≡ suc n = omega arith in
-      rw e (kept_step s written n ∙ ap₂ (λ (p : Slot) (l : List Tree). slot_tree s p ∷ l) (numbers_same b) (kept_other s n (omega arith)))
+      rw e (kept_step s written n ∙ ap₂ (λ (p : Slot) (l : List Tree). slot_tree s p ∷ l) (nth_same b) (kept_other s n (omega arith)))
 
 -- a leaf put among the others
 put_none : (m : Gathered) → put_t none m ≡ m
@@ -151,15 +126,15 @@ put_some : (c o : ℕ) (l r t : Tree) (k : List Tree) → t ≡ node c o l r
     → put_t t (keys k) ≡ cond (is_in same_tree t k) (keys k) (cond (ltb (length k) slots) (keys (t ∷ k)) many)
 put_some c o l r t k e = rw e (put_keys c o l r k)
 
-pub view_keys : (s : List ℕ) (n : ℕ) (q : List ℕ) → n ≤ slots → view s n q ≡ keys (kept s q n)
+pub view_keys : (s : List ℕ) (n : ℕ) (q : List Slot) → n ≤ slots → view s n q ≡ keys (kept s q n)
 unfolding view
 view_keys s n q h = rw (le-ltb _ _ h)
 
-pub view_many : (s : List ℕ) (n : ℕ) (q : List ℕ) → slots < n → view s n q ≡ many
+pub view_many : (s : List ℕ) (n : ℕ) (q : List Slot) → slots < n → view s n q ≡ many
 unfolding view
 view_many s n q h = rw (lt-ltb _ _ h)
 
-module _ (s : List ℕ) (at left n : ℕ) (q : List ℕ) where
+module _ (s : List ℕ) (at left n : ℕ) (q : List Slot) where
   pub put_zero : left ≡ 0 → view s n q ≡ put_t (parse_tree s left at).tree (view s n q)
   put_zero z = rw (parse_zero s left at z, put_none)
 
@@ -178,7 +153,7 @@ module _ (s : List ℕ) (at left n : ℕ) (q : List ℕ) where
     pub put_there : r < n → view s n q ≡ put_t (parse_tree s left at).tree (view s n q)
     put_there l = view_keys s n q h ∙ sym (put_by ∙ rw (lt-ltb _ _ l))
 
-    pub put_new : (p : Slot) (m : ℕ) (q₂ : List ℕ) → length q ≡ 36 → n ≤ r → p ≡ leaf_slot s at left → m ≡ count_put n → q₂ ≡ slot_put n p q
+    pub put_new : (p : Slot) (m : ℕ) (q₂ : List Slot) → length q ≡ 12 → n ≤ r → p ≡ leaf_slot s at left → m ≡ count_put n → q₂ ≡ slot_put n p q
         → view s m q₂ ≡ put_t (parse_tree s left at).tree (view s n q)
     unfolding count_put slot_put
     put_new p m q₂ len l ep em eq = ap₂ (view s) em eq ∙ go (ltb n slots) refl ∙ sym (put_by ∙ rw (le-ltb _ _ l))
@@ -188,24 +163,21 @@ module _ (s : List ℕ) (at left n : ℕ) (q : List ℕ) where
         go true e =
             let h : n < slots = ltb-true n slots e in
             let m : n + 1 ≤ slots = omega arith in
-            let b : 3 * n + 2 < length q = omega arith in
+            let b : n < length q = omega arith in
             rw e (view_keys s (n + 1) (written q n p) m ∙ ap keys
             (kept_written q n p s b ∙ ap (λ (t : Tree). t ∷ kept s q n) (ap (slot_tree s) ep ∙ leaf-slot s at left z)))
         go false e =
             let m : slots < slots + 1 = omega arith in
             rw e (view_many s (slots + 1) q m)
 
--- as many numbers as before
-pub put_length : (n : ℕ) (p : Slot) (q q₂ : List ℕ) → length q ≡ 36 → q₂ ≡ slot_put n p q → length q₂ ≡ 36
+-- as many slots as before
+pub put_length : (n : ℕ) (p : Slot) (q q₂ : List Slot) → length q ≡ 12 → q₂ ≡ slot_put n p q → length q₂ ≡ 12
 unfolding slot_put
 put_length n p q q₂ l e = ap length e ∙ go (ltb n slots)
   where
-    go : (b : Bool) → length (cond b (written q n p) q) ≡ 36
+    go : (b : Bool) → length (cond b (written q n p) q) ≡ 12
     go true =
-        length-set (set (set q (3 * n) p.place) (3 * n + 1) p.operand) (3 * n + 2) p.left
-        ∙ length-set (set q (3 * n) p.place) (3 * n + 1) p.operand
-        ∙ length-set q (3 * n) p.place
-        ∙ l
+        length-set q n p ∙ l
     go false = l
 
 pub ruleset add_leaf_branches = (put_zero, put_over, put_there, put_new, put_length)
@@ -220,24 +192,24 @@ pub gather_node : (w c o : ℕ) (l r : Tree) (m : Gathered)
 unfolding gather_t
 gather_node w c o l r m = refl
 
-module _ (s : List ℕ) (k at w n : ℕ) (q : List ℕ) where
+module _ (s : List ℕ) (k at w n : ℕ) (q : List Slot) where
   pub gather_zero : k ≡ 0 → view s n q ≡ gather_t w (parse_tree s k at).tree (view s n q)
   gather_zero z = rw (parse_zero s k at z, gather_none)
 
   module _ (x : Node) (b : Bool) (z : k ≡ 0 → ⊥) (e : x ≡ node_at s at) (eb : b ≡ member w x.code) where
-    pub gather_here : (m : ℕ) (q₂ : List ℕ) → b ≡ true → view s m q₂ ≡ put_t (parse_tree s k at).tree (view s n q)
+    pub gather_here : (m : ℕ) (q₂ : List Slot) → b ≡ true → view s m q₂ ≡ put_t (parse_tree s k at).tree (view s n q)
         → view s m q₂ ≡ gather_t w (parse_tree s k at).tree (view s n q)
     gather_here m q₂ d f = f ∙ rw (parse_step s k at z, ← e, gather_node, ← eb, d)
 
     pub gather_leaf : b ≡ false → x.parts ≡ 0 → view s n q ≡ gather_t w (parse_tree s k at).tree (view s n q)
     gather_leaf d p = rw (parse_step s k at z, ← e, gather_node, ← eb, d, p) (simp gather_none)
 
-    pub gather_one : (m : ℕ) (q₂ : List ℕ) → b ≡ false → (x.parts ≡ 0 → ⊥) → x.parts ≡ 1
+    pub gather_one : (m : ℕ) (q₂ : List Slot) → b ≡ false → (x.parts ≡ 0 → ⊥) → x.parts ≡ 1
         → view s m q₂ ≡ gather_t w (parse_tree s (k - 1) x.next).tree (view s n q)
         → view s m q₂ ≡ gather_t w (parse_tree s k at).tree (view s n q)
     gather_one m q₂ d p o f = f ∙ rw (parse_step s k at z, ← e, gather_node, ← eb, d, o, gather_none)
 
-    pub gather_two : (y m m₂ : ℕ) (q₂ q₃ : List ℕ) → b ≡ false → (x.parts ≡ 0 → ⊥) → (x.parts ≡ 1 → ⊥)
+    pub gather_two : (y m m₂ : ℕ) (q₂ q₃ : List Slot) → b ≡ false → (x.parts ≡ 0 → ⊥) → (x.parts ≡ 1 → ⊥)
         → y ≡ (parse_tree s (k - 1) x.next).end
         → view s m q₂ ≡ gather_t w (parse_tree s (k - 1) y).tree (view s n q)
         → view s m₂ q₃ ≡ gather_t w (parse_tree s (k - 1) x.next).tree (view s m q₂)
@@ -250,16 +222,16 @@ module _ (s : List ℕ) (k at w n : ℕ) (q : List ℕ) where
 pub ruleset gathers = (gather_zero, gather_here, gather_leaf, gather_one, gather_two, lower)
 
 -- the slots before the one that is written are as they were
-pub numbers_put : (n : ℕ) (p : Slot) (q q₂ : List ℕ) → q₂ ≡ slot_put n p q → (j : ℕ) → j < n → numbers q₂ j ≡ numbers q j
+pub nth_put : (n : ℕ) (p : Slot) (q q₂ : List Slot) → q₂ ≡ slot_put n p q → (j : ℕ) → j < n → nth q₂ j ≡ nth q j
 unfolding slot_put
-numbers_put n p q q₂ e j h = ap (λ (l : List ℕ). numbers l j) e ∙ go (ltb n slots)
+nth_put n p q q₂ e j h = ap (λ (l : List Slot). nth l j) e ∙ go (ltb n slots)
   where
-    go : (b : Bool) → numbers (cond b (written q n p) q) j ≡ numbers q j
-    go true = numbers_other q n p j h
+    go : (b : Bool) → nth (cond b (written q n p) q) j ≡ nth q j
+    go true = nth_other q n p j h
     go false = refl
 
 -- a tree among the first slots stays in its slot
-module _ (s q q₂ : List ℕ) (n : ℕ) (t : Tree) (same : (j : ℕ) → j < n → numbers q₂ j ≡ numbers q j) where
+module _ (s : List ℕ) (q q₂ : List Slot) (n : ℕ) (t : Tree) (same : (j : ℕ) → j < n → nth q₂ j ≡ nth q j) where
   same_at : (j : ℕ) → j < n → slot_at s q₂ j ≡ slot_at s q j
   unfolding slot_at
   same_at j h = ap (slot_tree s) (same j h)
@@ -287,7 +259,7 @@ module _ (s q q₂ : List ℕ) (n : ℕ) (t : Tree) (same : (j : ℕ) → j < n 
   slot_later h = of_is s q₂ t ∙ from_later slots 0 (let e = of_is s q t in omega arith) ∙ sym (of_is s q t)
 
 -- a new tree is in the slot that was written
-module _ (s : List ℕ) (at left n : ℕ) (p : Slot) (q : List ℕ) (z : left ≡ 0 → ⊥) (h : n < slots) (len : length q ≡ 36)
+module _ (s : List ℕ) (at left n : ℕ) (p : Slot) (q : List Slot) (z : left ≡ 0 → ⊥) (h : n < slots) (len : length q ≡ 12)
     (ep : p ≡ leaf_slot s at left) where
   abbrev t : Tree
   t = (parse_tree s left at).tree
@@ -308,6 +280,6 @@ module _ (s : List ℕ) (at left n : ℕ) (p : Slot) (q : List ℕ) (z : left �
           (sym (in_kept s (written q n p) t (n + 1) (omega arith)) ∙ ap (is_in same_tree t) here ∙ in_step t t (kept s q n)
           ∙ rw (same_self t))
 
-  pub slot-put : (q₂ : List ℕ) → q₂ ≡ slot_put n p q → n ≤ slot_of s q t → slot_of s q₂ t ≡ n
+  pub slot-put : (q₂ : List Slot) → q₂ ≡ slot_put n p q → n ≤ slot_of s q t → slot_of s q₂ t ≡ n
   unfolding slot_put
-  slot-put q₂ e l = ap (λ (l : List ℕ). slot_of s l t) (e ∙ rw (lt-ltb _ _ h)) ∙ put_slot l
+  slot-put q₂ e l = ap (λ (l : List Slot). slot_of s l t) (e ∙ rw (lt-ltb _ _ h)) ∙ put_slot l

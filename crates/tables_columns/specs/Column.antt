@@ -1,5 +1,5 @@
 -- Columns: a value for each row.
-use Rattle.std.specs.Prelude.{ℕ, zero, suc, List, [], ◌∷◌, ◌++◌, Bool, cond, not, get_or, eqb}
+use Rattle.std.specs.Prelude.{ℕ, zero, suc, ◌<◌, List, [], ◌∷◌, ◌++◌, Bool, cond, not, get_or, eqb}
 use Rattle.logic.specs.Rows.{all_below}
 use Rattle.tables_columns.specs.Combine.{combine}
 
@@ -23,6 +23,10 @@ deny_of a b = cond (eqb a 1) (cond (eqb b 1) 0 1) 0
 -- 1 at the rows where a is 1 and b is not
 unfoldable pub denied : ℕ → List ℕ → List ℕ → List ℕ
 denied n a b = column (λ i. deny_of (get_or a i 0) (get_or b i 0)) n
+
+-- R holds between each of the first n of a, that of b and that of c
+pub record Zipped {A : Type 0} (R : A → A → A → Type 0) (n : ℕ) (a b c : List A) : Type 0 where
+  pub at : (d : A) (i : ℕ) → i < n → R (get_or a i d) (get_or b i d) (get_or c i d)
 
 -- 1 from the first 1 on
 unfoldable pub seen_of : ℕ → ℕ → ℕ

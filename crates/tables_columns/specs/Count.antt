@@ -6,6 +6,7 @@ use Rattle.logic.specs.Rows.{row_count}
 use Rattle.formula.specs.Tree.{Tree, none, node}
 use Rattle.formula_compare.specs.Same.{same_tree}
 use Rattle.tables_columns.specs.Slots.{kept}
+use Rattle.tables_columns.specs.declared.slot.Slot.{Slot}
 
 -- the choices for a leaf with the code c
 unfoldable pub choices_by : ℕ → ℕ → ℕ
@@ -21,5 +22,5 @@ unfoldable pub capped : ℕ → ℕ → ℕ → ℕ
 capped limit n rows = cond (ltb limit (n * rows)) (limit + 1) (n * rows)
 
 -- the number of rows of the first n slots, or the limit plus 1 if it is above the limit
-unfoldable pub rows_up_to : List ℕ → List ℕ → ℕ → ℕ → ℕ → ℕ
+unfoldable pub rows_up_to : List ℕ → List Slot → ℕ → ℕ → ℕ → ℕ
 rows_up_to s q R limit n = capped limit 1 (row_count same_tree (choices_t R) (kept s q n))

@@ -1,5 +1,5 @@
 -- The leaves of trees, gathered, each once.
-use Rattle.std.specs.Prelude.{ℕ, ◌+◌, ◌*◌, List, [], ◌∷◌, ◌++◌, cond, length, set, ltb}
+use Rattle.std.specs.Prelude.{ℕ, ◌+◌, List, [], ◌∷◌, ◌++◌, cond, length, set, ltb}
 use Rattle.logic.specs.Rows.{is_in}
 use Rattle.formula.specs.Codes.{member}
 use Rattle.formula.specs.Tree.{Tree, none, node}
@@ -29,7 +29,7 @@ gather_t w none m = m
 gather_t w (node c o l r) m = cond (member w c) (put_t (node c o l r) m) (gather_t w l (gather_t w r m))
 
 -- the leaves in the first n slots
-unfoldable pub view : List ℕ → ℕ → List ℕ → Gathered
+unfoldable pub view : List ℕ → ℕ → List Slot → Gathered
 view s n q = cond (ltb slots n) many (keys (kept s q n))
 
 -- the number of leaves with one more in the slot n
@@ -37,5 +37,5 @@ unfoldable pub count_put : ℕ → ℕ
 count_put n = cond (ltb n slots) (n + 1) (slots + 1)
 
 -- the slots with one more leaf in the slot n, if there is such a slot
-unfoldable pub slot_put : ℕ → Slot → List ℕ → List ℕ
-slot_put n p q = cond (ltb n slots) (set (set (set q (3 * n) p.place) (3 * n + 1) p.operand) (3 * n + 2) p.left) q
+unfoldable pub slot_put : ℕ → Slot → List Slot → List Slot
+slot_put n p q = cond (ltb n slots) (set q n p) q

@@ -19,9 +19,5 @@ pub fn fill(value: u8, n: usize, out: &mut [u8])
     requires { n ≤ length out.old }
     ensures { take n out.new ≡ constant value n }
 {
-    let mut i: usize = 0;
-    while i < n {
-        out[i] = value;
-        i += 1;
-    }
+    out[..n].fill(value);
 }

@@ -8,10 +8,11 @@ use formula::code::Code;
 fn room_for(range: u8, number: u8) -> u8
     ensures { result ≡ range - number }
 {
-    if number < range { range - number } else { 0 }
+    range.saturating_sub(number)
 }
 
 // The sum modulo the range of two values below it. There is no division and all is in bytes, so that the compiler vectorises the loop.
+#[tactic(auto, using(crate::proofs::CombineBranches::sum_of_branches, limits::proofs::BranchTests::tests))]
 pub fn sum_of(range: u8, first: u8, second: u8) -> u8
     ensures { result ≡ sum_of range first second }
 {
@@ -24,19 +25,18 @@ pub fn sum_of(range: u8, first: u8, second: u8) -> u8
 }
 
 // A node's value from the values of its parts; 0 for a code that has no value by its parts.
+#[tactic(auto, using(crate::proofs::CombineBranches::combine_parts_branches, limits::proofs::BranchTests::tests))]
 pub fn combine_parts(range: u8, code: u8, operand: u8, first: u8, second: u8) -> u8
     ensures { result ≡ combine range code operand first second }
 {
     match code {
         Code::CONST => operand,
         Code::SUM => sum_of(range, first, second),
-        Code::EQUAL => if first == second { 1 } else { 0 },
-        Code::LESS => if first < second { 1 } else { 0 },
-        Code::NOT => if first == 1 { 0 } else { 1 },
-        Code::AND => if first == 1 { second } else { 0 },
-        Code::OR => if first == 1 { 1 } else { second },
-        Code::BOTH_A => if first == 1 { second } else { 0 },
-        Code::EITHER_A => if first == 1 { 1 } else { second },
+        Code::EQUAL => u8::from(first == second),
+        Code::LESS => u8::from(first < second),
+        Code::NOT => u8::from(first != 1),
+        Code::AND | Code::BOTH_A => if first == 1 { second } else { 0 },
+        Code::OR | Code::EITHER_A => if first == 1 { 1 } else { second },
         Code::HOLDS => first,
         _ => 0,
     }

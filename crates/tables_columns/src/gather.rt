@@ -10,57 +10,52 @@ use formula::end::end_at;
 use formula::node::node_at;
 
 // Writes a leaf into slot `n` if there is such a slot; returns the number of leaves then.
-pub fn put_slot(n: usize, slot: Slot, slots: &mut [usize; Slots::NUMBERS]) -> usize
+#[tactic(auto, using(limits::proofs::BranchTests::tests), unfolding(crate::specs::Gather::count_put, crate::specs::Gather::slot_put))]
+pub fn put_slot(n: usize, slot: Slot, slots: &mut [Slot; Slots::COUNT]) -> usize
     ensures value { result ≡ count_put n }
     ensures slots_after { slots.new ≡ slot_put n slot slots.old }
 {
     if n < Slots::COUNT {
-        slots[3 * n] = slot.place;
-        slots[3 * n + 1] = slot.operand;
-        slots[3 * n + 2] = slot.left;
+        slots[n] = slot;
         return n + 1;
     }
     Slots::COUNT + 1
 }
 
+// `at` and `left` change separately at each step of a recursion, so a struct of them would be taken apart in every call.
+
 // Adds the leaf at `at` unless one of the first `n` slots has it; returns the number of leaves then.
+#[tactic(auto, using(crate::proofs::GatherBranches::add_leaf_branches, limits::proofs::BranchTests::tests))]
 pub fn add_leaf(
     image: &[u8],
     at: usize,
     left: usize,
     n: usize,
-    slots: &mut [usize; Slots::NUMBERS],
+    slots: &mut [Slot; Slots::COUNT],
 ) -> usize
-    requires { length slots.old ≡ 36 }
     ensures slots_after { view image.now result slots.new ≡ put_t (parse_tree image.now left at).tree
         (view image.now n slots.old) }
-    ensures slots_len { length slots.new ≡ 36 }
+    ensures slots_len { length slots.new ≡ 12 }
 {
-    if left == 0 {
-        return n;
-    }
-    if Slots::COUNT < n {
-        return n;
-    }
-    if slot_within(image, at, left, slots, n) < n {
+    if left == 0 || Slots::COUNT < n || slot_within(image, at, left, slots, n) < n {
         return n;
     }
     put_slot(n, leaf_slot(image, at, left), slots)
 }
 
 // Adds the leaves of the formula at `at`, which are the nodes whose code is in `set`; returns the number of leaves then.
+#[tactic(auto, using(crate::proofs::GatherBranches::gathers, limits::proofs::BranchTests::tests))]
 pub fn gather_at(
     image: &[u8],
     at: usize,
     left: usize,
     set: u32,
     n: usize,
-    slots: &mut [usize; Slots::NUMBERS],
+    slots: &mut [Slot; Slots::COUNT],
 ) -> usize
-    requires { length slots.old ≡ 36 }
     ensures slots_after { view image.now result slots.new ≡ gather_t set (parse_tree image.now left at).tree
         (view image.now n slots.old) }
-    ensures slots_len { length slots.new ≡ 36 }
+    ensures slots_len { length slots.new ≡ 12 }
 {
     if left == 0 {
         return n;

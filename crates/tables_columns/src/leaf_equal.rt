@@ -6,7 +6,7 @@ ghost use Rattle.formula_compare.specs.Same.{same_tree, pair_of};
 ghost use Rattle.tables_columns.specs.LeafEqual.{step_of};
 
 use formula::node::node_at;
-use formula_compare::same::{Pair, Same, pair_nodes, same_at};
+use formula_compare::same::{Pair, pair_nodes, same_at};
 
 // The bound of the walk.
 #[derive(Drop)]
@@ -17,66 +17,37 @@ impl Walk {
     pub const NODES: usize = 16;
 }
 
-// After two nodes: whether they differ, the positions of the next two, and the number of parts still to be compared.
+// The positions of the next two nodes, and the number of parts still to be compared.
 #[derive(Clone, Copy)]
 pub struct Step {
-    pub differ: bool,
     pub first: usize,
     pub second: usize,
     pub due: usize,
 }
 
-// `n` - 1, or 0 for 0.
-fn one_fewer(n: usize) -> usize
-    ensures { result ≡ n - 1 }
-{
-    if n == 0 {
-        return 0;
-    }
-    n - 1
-}
-
-// The step after a pair of nodes, where `due` parts, this one included, were to be compared.
-fn step_by(pair: Pair, due: usize) -> Step
+// The step after a pair of nodes, where `due` parts, this one included, were to be compared; none if they differ.
+#[tactic(auto, using(crate::proofs::LeafEqualBranches::step_by_branches, limits::proofs::BranchTests::tests))]
+fn step_by(pair: Pair, due: usize) -> Option<Step>
     requires { due ≤ 17 }
     ensures { result ≡ step_of pair due }
 {
-    match pair {
-        Pair::Differ => Step {
-            differ: true,
-            first: 0,
-            second: 0,
-            due: 0,
-        },
-        Pair::Ended(p, q) => Step {
-            differ: false,
-            first: p,
-            second: q,
-            due: one_fewer(due),
-        },
-        Pair::One(p, q) => Step {
-            differ: false,
-            first: p,
-            second: q,
-            due,
-        },
-        Pair::Two(p, q) => Step {
-            differ: false,
-            first: p,
-            second: q,
-            due: due + 1,
-        },
-    }
+    let (first, second, due) = match pair {
+        Pair::Differ => return None,
+        Pair::Ended(p, q) => (p, q, due.saturating_sub(1)),
+        Pair::One(p, q) => (p, q, due),
+        Pair::Two(p, q) => (p, q, due + 1),
+    };
+    Some(Step { first, second, due })
 }
 
-// The step after the nodes at `at` and `other_at`, where `due` parts were to be compared.
-fn step_at(image: &[u8], at: usize, other_at: usize, due: usize) -> Step
-    requires { due ≤ 17 }
-    ensures { result ≡ step_of (pair_of (node_at image.now at) (node_at image.now other_at)) due }
+// The step after the two nodes of a step; none if they differ.
+fn step_after(image: &[u8], step: Step) -> Option<Step>
+    requires { step.due ≤ 17 }
+    ensures { result ≡ step_of (pair_of (node_at image.now step.first) (node_at image.now step.second)) step.due }
 {
     step_by(
-        pair_nodes(node_at(image, at), node_at(image, other_at)),
-        due,
+        pair_nodes(node_at(image, step.first), node_at(image, step.second)),
+        step.due,
     )
 }
 
@@ -84,27 +55,17 @@ fn step_at(image: &[u8], at: usize, other_at: usize, due: usize) -> Step
 fn nodes_within(left: usize, other_left: usize) -> usize
     ensures { (result ≤ left) × ((result ≤ other_left) × (result ≤ 16)) }
 {
-    if left < Walk::NODES {
-        if left < other_left {
-            return left;
-        }
-        return other_left;
-    }
-    if other_left < Walk::NODES {
-        return other_left;
-    }
-    Walk::NODES
+    left.min(other_left).min(Walk::NODES)
 }
 
+// `at` and `left` are handed on to a recursion that takes them apart, so no struct holds them here.
 // Whether two formulas are equal, by recursion over their parts, however many nodes they have.
+#[tactic(auto, using(crate::proofs::LeafEqualBranches::parts_told))]
 fn same_parts(image: &[u8], at: usize, left: usize, other_at: usize, other_left: usize) -> bool
     ensures { result ≡ same_tree (parse_tree image.now left at).tree
         (parse_tree image.now other_left other_at).tree }
 {
-    match same_at(image, at, left, other_at, other_left) {
-        Same::Yes(_, _) => true,
-        Same::No => false,
-    }
+    same_at(image, at, left, other_at, other_left).is_some()
 }
 
 // Whether the formulas at `at`, nested at most `at_left` deep, and at `other_at`, nested at most `other_left` deep, are equal.
@@ -118,22 +79,19 @@ pub fn same_leaf(
     ensures { result ≡ same_tree (parse_tree image.now at_left at).tree
         (parse_tree image.now other_left other_at).tree }
 {
-    let mut p = at;
-    let mut q = other_at;
-    let mut due: usize = 1;
-    let mut left = nodes_within(at_left, other_left);
-    while 0 < due {
-        if left == 0 {
-            return same_parts(image, at, at_left, other_at, other_left);
-        }
-        let step = step_at(image, p, q, due);
-        if step.differ {
+    let mut step = Step {
+        first: at,
+        second: other_at,
+        due: 1,
+    };
+    for _walked in 0..nodes_within(at_left, other_left) {
+        let Some(next) = step_after(image, step) else {
             return false;
+        };
+        if next.due == 0 {
+            return true;
         }
-        p = step.first;
-        q = step.second;
-        due = step.due;
-        left -= 1;
+        step = next;
     }
-    true
+    same_parts(image, at, at_left, other_at, other_left)
 }

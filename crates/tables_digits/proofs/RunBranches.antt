@@ -6,8 +6,10 @@ use mathlib.Core.Bool.{Bool, true, false, cond}
 use native.Mathlib.Omega.{arith}
 use native.Mathlib.Numerals.{add-one}
 use native.Mathlib.Nat.{mul-suc, mul-one, mul-zero, mul-le-mul}
-use lib.ListN.{length, get_or, set, take, get_or-append}
-use lib.Seq.{take-suc, take-suc-set, get_or-take, take-take, take_at, length-take-le}
+use lib.ListN.{length, get_or, take, replicate, length-append}
+use lib.Seq.{take-take, take_at, length-take-le, paste}
+use Rattle.std.proofs.lemmas.List.{length-replicate}
+use Rattle.std.proofs.lemmas.List.Edits.{take-paste}
 use lib.Dec.{ltb}
 use mir.Val.{Fits}
 use mir.Syntax.{w64}
@@ -15,60 +17,28 @@ use borrow.Author.Rules.{Fits-under}
 use borrow.Author.Tests.{lt-ltb, le-ltb, ltb-true, ltb-false}
 use Rattle.tables_columns.specs.Slots.{slots}
 use Rattle.tables_columns.specs.Column.{column, constant}
+use Rattle.tables_columns.proofs.ColumnBranches.{constant_replicate}
 use Rattle.tables_columns.proofs.ColumnLists.{column_none, column_step, column_length, column_same}
 use Rattle.tables_digits.specs.SlotColumn.{value_in, row_in, slot_column, longer_run, run_of, span_of, level_in, Cycles, Widened}
 use Rattle.tables_digits.proofs.EachRowOnce.{run, digit_run, run_first, run_next}
 
 -- a run of a value behind the first rows
-module _ (v from : ℕ) (o a : List ℕ) where
-  pub run_begin : take (from + 0) o ≡ take from o ++ constant v 0
-  unfolding constant
-  run_begin = let e : from + 0 ≡ from = omega arith in
-      ap (λ (n : ℕ). take n o) e ∙ sym (append-nil (take from o))
-      ∙ ap (λ (l : List ℕ). take from o ++ l) (sym (column_none (λ (i : ℕ). v)))
-
-  module _ (i count : ℕ) (e : take (from + i) a ≡ take from o ++ constant v i) where
-    pub run_more : i < count → from + count ≤ length o → length a ≡ length o
-        → take (from + (i + 1)) (set a (from + i) v) ≡ take from o ++ constant v (i + 1)
-    unfolding constant
-    run_more h k l =
-        let s : from + (i + 1) ≡ suc (from + i) = omega arith in
-        ap (λ (n : ℕ). take n (set a (from + i) v)) s
-        ∙ take-suc-set a (from + i) v (omega arith)
-        ∙ ap (λ (l : List ℕ). l ++ (v ∷ [])) e
-        ∙ append_assoc (take from o) (column (λ (i : ℕ). v) i) (v ∷ [])
-        ∙ ap (λ (l : List ℕ). take from o ++ l) (sym (ap (column (λ (i : ℕ). v)) (add-one i) ∙ column_step (λ (i : ℕ). v) i))
-
-    pub run_end : i ≤ count → count ≤ i → take (from + count) a ≡ take from o ++ constant v count
-    run_end h k = let q : i ≡ count = omega arith in rw q at e
-
-pub ruleset set_run_branches = (run_begin, run_more, run_end)
+pub run_filled : (v from count m : ℕ) (o l r : List ℕ) → from + count ≤ length o → l ≡ replicate m v → m ≡ count
+    → take (from + count) (take from o ++ (l ++ r)) ≡ take from o ++ constant v count
+run_filled v from count k o l r h e d =
+    let m : l ≡ replicate count v = rw d at e in
+    let n : length (take from o ++ l) ≡ from + count =
+    omega (arith, length-append (take from o) l, length-take-le from o (omega arith), ap length m ∙ length-replicate count v) in
+    ap (take (from + count)) (sym (append_assoc (take from o) l r))
+    ∙ take_at (take from o ++ l) r (from + count) n
+    ∙ ap (λ (l : List ℕ). take from o ++ l) (m ∙ sym (constant_replicate v count))
 
 -- the first rows once more
-module _ (from : ℕ) (o a : List ℕ) where
-  pub front_begin : take (from + 0) o ≡ take from o ++ take 0 o
-  front_begin = let e : from + 0 ≡ from = omega arith in ap (λ (n : ℕ). take n o) e ∙ sym (append-nil (take from o))
-
-  module _ (i count : ℕ) (e : take (from + i) a ≡ take from o ++ take i o) where
-    pub front_more : i < count → count ≤ from → from + count ≤ length o → length a ≡ length o
-        → take (from + (i + 1)) (set a (from + i) (get_or a i 0)) ≡ take from o ++ take (i + 1) o
-    front_more h c k l =
-        let s : from + (i + 1) ≡ suc (from + i) = omega arith in
-        let j : i < from = omega arith in
-        let m : i < length (take from o) = let m = length-take-le from o (omega arith) in omega arith in
-        let g : get_or a i 0 ≡ get_or o i 0 =
-        sym (get_or-take (from + i) a i 0 (omega arith)) ∙ ap (λ (l : List ℕ). get_or l i 0) e
-        ∙ get_or-append (take from o) (take i o) 0 i m ∙ get_or-take from o i 0 j in
-        ap (λ (n : ℕ). take n (set a (from + i) (get_or a i 0))) s
-        ∙ take-suc-set a (from + i) (get_or a i 0) (omega arith)
-        ∙ ap₂ (λ (l : List ℕ) (x : ℕ). l ++ (x ∷ [])) e g
-        ∙ append_assoc (take from o) (take i o) (get_or o i 0 ∷ [])
-        ∙ ap (λ (l : List ℕ). take from o ++ l) (sym (ap (λ (n : ℕ). take n o) (add-one i) ∙ take-suc o i 0 (omega arith)))
-
-    pub front_end : i ≤ count → count ≤ i → take (from + count) a ≡ take from o ++ take count o
-    front_end h k = let q : i ≡ count = omega arith in rw q at e
-
-pub ruleset repeat_front_branches = (front_begin, front_more, front_end)
+pub front_pasted : (from count : ℕ) (o b : List ℕ) → from + count ≤ length o → b ≡ paste o from o (count - 0)
+    → take (from + count) b ≡ take from o ++ take count o
+front_pasted from count o b h e =
+    let k : count - 0 ≡ count = omega arith in
+    rw (e, k) (take-paste o from o count (omega arith) (omega arith))
 
 -- how long a run is
 module _ (n m r : ℕ) where
@@ -96,10 +66,7 @@ module _ (n : ℕ) (ms : List ℕ) where
   unfolding run_of
   of_more i r x e d = d ∙ ap (longer_run n (get_or ms i 0)) e ∙ ap (run_of n ms) (sym (add-one i))
 
-  pub of_end : (i j r : ℕ) → i ≤ j → j ≤ i → r ≡ run_of n ms i → r ≡ run_of n ms j
-  of_end i j r h k e = let q : i ≡ j = omega arith in e ∙ ap (run_of n ms) q
-
-pub ruleset run_of_branches = (of_begin, of_more, of_end)
+pub ruleset run_of_branches = (of_begin, of_more)
 
 -- a run that has fewer than n rows is exact
 module _ (n : ℕ) (ms : List ℕ) where

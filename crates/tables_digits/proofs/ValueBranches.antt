@@ -7,6 +7,8 @@ use native.Mathlib.Omega.{arith}
 use lib.ListN.{get_or, take}
 use lib.Dec.{eqb, ltb}
 use borrow.Author.Tests.{lt-ltb, le-ltb, eq-eqb, ne_eqb, eqb-false, ltb-true, ltb-false}
+use Rattle.std.specs.Prelude.{Option, Some, None}
+use Rattle.limits.proofs.BranchTests.{tests}
 use Rattle.formula.specs.Codes.{member, part_count}
 use Rattle.formula.specs.Tree.{Tree, none, node, node_at, ParsedTree, part, parse_tree}
 use Rattle.formula.specs.declared.node.Node.{Node}
@@ -20,14 +22,14 @@ use Rattle.tables_digits.proofs.RunBranches.{widen_begin, span_within, span_some
 use Rattle.tables_columns.proofs.ColumnLists.{column_at, column_same}
 use Rattle.tables_digits.specs.ValueColumn.{value_t, row_value, column_of, level_of, span_t, leaf_at, leaf_column, met_at, reached_at, Joined, second_left}
 use Rattle.tables_digits.specs.declared.value_column.Reading.{Reading}
-use Rattle.tables_digits.specs.declared.value_column.Met.{Met}
+use Rattle.tables_columns.specs.declared.slot.Slot.{Slot}
 use Rattle.tables_digits.specs.declared.value_column.Reached.{Reached}
 
 -- a node without parts has a code without parts
 pub no_parts : (s : List ℕ) (at : ℕ) (x : Node) → x ≡ node_at s at → x.parts ≡ 0 → part_count x.code ≡ 0
 no_parts s at x e p = rw e (sym (parts_of s at) ∙ ap (λ (x : Node). x.parts) (sym e) ∙ p)
 
-module _ (s : List ℕ) (w : Reading) (q : List ℕ) where
+module _ (s : List ℕ) (w : Reading) (q : List Slot) where
   pub value_none : (v : List ℕ) → row_value s w q v none ≡ 0
   unfolding row_value value_t
   value_none v = refl
@@ -136,14 +138,9 @@ module _ (s : List ℕ) (w : Reading) (q : List ℕ) where
       unfolding leaf_at
       leaf_zero z = rw (eq-eqb _ _ z)
 
-      pub met_zero : k ≡ 0 → record { leaf = true; level = 0 } ≡ met_at s w q k at
+      pub met_zero : k ≡ 0 → Some 0 ≡ met_at s w q k at
       unfolding met_at
-      met_zero z i = record {
-        leaf = leaf_zero z i;
-        level =
-            (sym level_none ∙ ap (λ (u : ParsedTree). level_of s w q u.tree) (sym (parse_zero s k at z))
-            ∙ ap (λ (b : Bool). cond b (level_of s w q (parse_tree s k at).tree) 0) (leaf_zero z)) i;
-      }
+      met_zero z = rw (← leaf_zero z, parse_zero s k at z, level_none)
 
       pub zero_column : (m : ℕ) → k ≡ 0 → m ≡ span_of n ms 0 → take m a ≡ constant 0 m
           → take (span_t s w q ms n (parse_tree s k at).tree) a ≡ leaf_column s w q ms (span_t s w q ms n (parse_tree s k at).tree) k at o
@@ -159,14 +156,9 @@ module _ (s : List ℕ) (w : Reading) (q : List ℕ) where
         plain_tree p = rw (parse_step s k at z, ← e, p)
 
         pub met_plain : (l : ℕ) → x.parts ≡ 0 → l ≡ level_of s w q (node x.code x.operand none none)
-            → record { leaf = true; level = l } ≡ met_at s w q k at
+            → Some l ≡ met_at s w q k at
         unfolding met_at
-        met_plain l p f i = record {
-          leaf = leaf_plain p i;
-          level =
-              (f ∙ ap (level_of s w q) (sym (plain_tree p)) ∙ ap (λ (b : Bool). cond b (level_of s w q (parse_tree s k at).tree) 0)
-              (leaf_plain p)) i;
-        }
+        met_plain l p f = rw (← leaf_plain p, plain_tree p, f)
 
         pub plain_column : x.parts ≡ 0 → take (span_t s w q ms n (node x.code x.operand none none)) a ≡ column_of s w q ms
             (span_t s w q ms n (node x.code x.operand none none)) (node x.code x.operand none none)
@@ -183,14 +175,9 @@ module _ (s : List ℕ) (w : Reading) (q : List ℕ) where
           inner_level d = rw (parse_step s k at z, ← e) (sym (level_leaf x.code x.operand _ _ (sym eb ∙ d)))
 
           module _ (j l : ℕ) (f : j ≡ slot_of s q (parse_tree s k at).tree) (el : l ≡ level_in j) where
-            pub met_inner : b ≡ true → record { leaf = true; level = l } ≡ met_at s w q k at
+            pub met_inner : b ≡ true → Some l ≡ met_at s w q k at
             unfolding met_at
-            met_inner d i = record {
-              leaf = leaf_inner true d i;
-              level =
-                  (el ∙ ap level_in f ∙ inner_level d ∙ ap (λ (b : Bool). cond b (level_of s w q (parse_tree s k at).tree) 0)
-                  (leaf_inner true d)) i;
-            }
+            met_inner d = rw (← leaf_inner true d) (ap Some (el ∙ ap level_in f ∙ inner_level d))
 
             pub inner_column : b ≡ true → take (span_of n ms l) a ≡ slot_column ms j (span_of n ms l)
                 → take (span_t s w q ms n (parse_tree s k at).tree) a ≡ leaf_column s w q ms (span_t s w q ms n (parse_tree s k at).tree) k
@@ -204,12 +191,9 @@ module _ (s : List ℕ) (w : Reading) (q : List ℕ) where
                     (parse_tree s k at).tree
                 whole d = rw (parse_step s k at z, ← e) (column_leaf (span_of n ms l) x.code x.operand _ _ (sym eb ∙ d))
 
-          pub met_other : b ≡ false → record { leaf = false; level = 0 } ≡ met_at s w q k at
+          pub met_other : b ≡ false → None ≡ met_at s w q k at
           unfolding met_at
-          met_other d i = record {
-            leaf = leaf_inner false d i;
-            level = ap (λ (b : Bool). cond b (level_of s w q (parse_tree s k at).tree) 0) (leaf_inner false d) i;
-          }
+          met_other d = rw (← leaf_inner false d)
 
           pub other_column : b ≡ false → take (span_t s w q ms n (parse_tree s k at).tree) a ≡ leaf_column s w q ms
               (span_t s w q ms n (parse_tree s k at).tree) k at a
@@ -217,27 +201,36 @@ module _ (s : List ℕ) (w : Reading) (q : List ℕ) where
           other_column d = rw (← leaf_inner false d)
 
     -- all formulas
-    module _ (k at : ℕ) (f : Met) (ef : f ≡ met_at s w q k at) where
+    module _ (k at : ℕ) (f : Option ℕ) (ef : f ≡ met_at s w q k at) where
       abbrev tree : Tree
       tree = (parse_tree s k at).tree
 
-      is_leaf : f.leaf ≡ leaf_at s w k at
+      is_leaf : (l : ℕ) → f ≡ Some l → (leaf_at s w k at ≡ true) × (l ≡ level_of s w q tree)
       unfolding met_at
-      is_leaf = ap (λ (m : Met). m.leaf) ef
+      is_leaf l d = go (leaf_at s w k at) (sym d ∙ ef)
+        where
+          go : (b : Bool) → Some l ≡ cond b (Some (level_of s w q tree)) None → (b ≡ true) × (l ≡ level_of s w q tree)
+          go true e = (refl, cc)
+          go false e = cc
 
-      pub reached_leaf : (e : ℕ) → f.leaf ≡ true → e ≡ (parse_tree s k at).end → record { end = e; level = f.level } ≡ reached_at s w q k at
-      unfolding met_at reached_at
-      reached_leaf e d g i = record {
-        end = g i;
-        level = (ap (λ (m : Met). m.level) ef ∙ ap (λ (b : Bool). cond b (level_of s w q tree) 0) (sym is_leaf ∙ d)) i;
-      }
+      no_leaf : ((l : ℕ) → f ≡ Some l → ⊥) → leaf_at s w k at ≡ false
+      unfolding met_at
+      no_leaf d = go (leaf_at s w k at) ef
+        where
+          go : (b : Bool) → f ≡ cond b (Some (level_of s w q tree)) None → b ≡ false
+          go true e = absurd (d _ e)
+          go false e = refl
 
-      pub value_leaf : (a o : List ℕ) → f.leaf ≡ true
+      pub reached_leaf : (e l : ℕ) → f ≡ Some l → e ≡ (parse_tree s k at).end → record { end = e; level = l } ≡ reached_at s w q k at
+      unfolding reached_at
+      reached_leaf e l d g i = record { end = g i; level = (is_leaf l d).1 i }
+
+      pub value_leaf : (a o : List ℕ) (l : ℕ) → f ≡ Some l
           → take (span_t s w q ms n (parse_tree s k at).tree) a ≡ leaf_column s w q ms (span_t s w q ms n (parse_tree s k at).tree) k at o
           → take (span_t s w q ms n (parse_tree s k at).tree) a ≡ column_of s w q ms (span_t s w q ms n (parse_tree s k at).tree)
           (parse_tree s k at).tree
       unfolding leaf_column
-      value_leaf a o d g = g ∙ rw (← is_leaf, d)
+      value_leaf a o l d g = g ∙ rw ((is_leaf l d).0)
 
       -- neither a leaf nor without parts, and some nesting is left
       inner : (u v : Bool) → eqb k 0 ≡ u → eqb (node_at s at).parts 0 ≡ v
@@ -247,10 +240,10 @@ module _ (s : List ℕ) (w : Reading) (q : List ℕ) where
       inner false true f g h = absurd (true≢false h)
       inner false false f g h = (eqb-false k 0 f, (eqb-false (node_at s at).parts 0 g, h))
 
-      module _ (d : f.leaf ≡ false) where
+      module _ (d : (l : ℕ) → f ≡ Some l → ⊥) where
         split : (k ≡ 0 → ⊥) × (((node_at s at).parts ≡ 0 → ⊥) × (member w.leaves (node_at s at).code ≡ false))
         unfolding leaf_at
-        split = inner (eqb k 0) (eqb (node_at s at).parts 0) refl refl (sym is_leaf ∙ d)
+        split = inner (eqb k 0) (eqb (node_at s at).parts 0) refl refl (no_leaf d)
 
         pub some_left : 1 ≤ k
         some_left = go k refl
@@ -380,7 +373,7 @@ module _ (s : List ℕ) (w : Reading) (q : List ℕ) where
         same = em ∙ ap (λ (r : Reached). span_of n ms r.level) ep
 
 -- no more slots than there are
-pub level_within : (s : List ℕ) (w : Reading) (q : List ℕ) (k at : ℕ) (p : Reached) → p ≡ reached_at s w q k at → p.level ≤ 12
+pub level_within : (s : List ℕ) (w : Reading) (q : List Slot) (k at : ℕ) (p : Reached) → p ≡ reached_at s w q k at → p.level ≤ 12
 unfolding reached_at
 level_within s w q k at p e = let f = ap (λ (r : Reached). r.level) e in let h = level_most s w q (parse_tree s k at).tree in omega arith
 
@@ -399,9 +392,7 @@ module _ (n : ℕ) (ms : List ℕ) (i l : ℕ) (a : List ℕ) where
     pub widens_some : min 1 rows ≤ m
     widens_some = let e = span_some n ms i in let h = span_within n ms l in omega arith
 
-pub ruleset widen_level_widens = (widen_none, widen_all)
-
-pub ruleset widen_level_widens_asks = (widens_within, widens_some, span_fits)
+pub ruleset widen_level_branches = (widen_none, widen_all, widens_within, widens_some, span_fits, tests)
 
 pub span_low : (n : ℕ) (ms : List ℕ) (j m : ℕ) → m ≡ span_of n ms j → m ≤ n
 span_low n ms j m e = let h = span_within n ms j in omega arith
@@ -430,7 +421,7 @@ module _ (R : ℕ) (x : Node) (n : ℕ) (ms : List ℕ) (i j l rows : ℕ) (a b 
       right = (g v eb (subst (λ (k : ℕ). Cycles v (span_of n ms k) (span_of n ms j)) (sym el) cb)).0
 
 -- a formula without parts
-module _ (s : List ℕ) (w : Reading) (q ms : List ℕ) (n c o : ℕ) (a : List ℕ) (b : Bool) (eb : b ≡ member w.leaves c) where
+module _ (s : List ℕ) (w : Reading) (q : List Slot) (ms : List ℕ) (n c o : ℕ) (a : List ℕ) (b : Bool) (eb : b ≡ member w.leaves c) where
   abbrev plain : Tree
   plain = node c o none none
 
@@ -459,26 +450,32 @@ module _ (s : List ℕ) (w : Reading) (q ms : List ℕ) (n c o : ℕ) (a : List 
         (λ i h. e ∙ sym (value_inner s w q (row_in ms i) c o none none (sym eb ∙ d)
         ∙ ap₂ (combine w.range c o) (value_none s w q (row_in ms i)) (value_none s w q (row_in ms i)))))
 
-pub ruleset plain_column_branches = (plain_level, plain_leaf, plain_no_level, plain_other)
+pub ruleset plain_column_branches = (plain_level, plain_leaf, plain_no_level, plain_other, span_fits, tests)
 
-pub ruleset leaf_column_mets = (no_parts, met_zero, met_plain, met_inner, met_other)
-
-pub ruleset leaf_column_leafs = (no_parts, zero_column, plain_column, inner_column, other_column)
+pub ruleset leaf_column_branches = (
+  no_parts,
+  met_zero,
+  met_plain,
+  met_inner,
+  met_other,
+  zero_column,
+  plain_column,
+  inner_column,
+  other_column,
+  span_fits,
+  tests,
+)
 
 pub second_none : (p k : ℕ) → p < 2 → 0 ≡ second_left p k
 unfolding second_left
 second_none p k h = rw (lt-ltb _ _ h)
 
-pub second_cut : (p k : ℕ) → 2 ≤ p → k ≡ 0 → 0 ≡ second_left p k
-unfolding second_left
-second_cut p k h z = rw (le-ltb _ _ h, z)
-
 pub second_some : (p k : ℕ) → 2 ≤ p → k - 1 ≡ second_left p k
 unfolding second_left
 second_some p k h = rw (le-ltb _ _ h)
 
-pub ruleset second_left_branches = (second_none, second_cut, second_some)
+pub ruleset second_left_branches = (second_none, second_some)
 
-pub ruleset column_at_values = (value_leaf, some_left, first_less, second_less, value_two)
+pub ruleset column_at_branches = (value_leaf, some_left, first_less, second_less, value_two, reached_leaf, reached_two, tests)
 
-pub ruleset column_at_reaches = (reached_leaf, reached_two)
+pub ruleset whole_column_branches = (level_within, whole_asks, value_whole)

@@ -1,3 +1,4 @@
 pub mod Advance
 pub mod SlotColumn
 pub mod ValueColumn
+pub mod RowsOf

@@ -1,5 +1,5 @@
 -- The value of a tree at a row; of a test, 1 for true.
-use Rattle.std.specs.Prelude.{ℕ, ◌-◌, max, ◌≡◌, List, Bool, true, cond, take, eqb, ltb}
+use Rattle.std.specs.Prelude.{ℕ, ◌-◌, max, ◌≡◌, List, Bool, true, cond, take, eqb, ltb, Option, Some, None}
 use Rattle.formula.specs.Codes.{member}
 use Rattle.formula.specs.Tree.{Tree, none, node, node_at, parse_tree}
 use Rattle.tables_columns.specs.Slots.{slot_of}
@@ -7,8 +7,8 @@ use Rattle.tables_columns.specs.Combine.{combine}
 use Rattle.tables_columns.specs.Column.{column}
 use Rattle.tables_digits.specs.SlotColumn.{value_in, row_in, span_of, level_in, Cycles}
 use Rattle.formula.specs.declared.node.Node.{Node}
+use Rattle.tables_columns.specs.declared.slot.Slot.{Slot}
 use Rattle.tables_digits.specs.declared.value_column.Reading.{Reading}
-use Rattle.tables_digits.specs.declared.value_column.Met.{Met}
 use Rattle.tables_digits.specs.declared.value_column.Reached.{Reached}
 
 -- the value of a tree, where ν gives the values of its leaves
@@ -17,20 +17,20 @@ value_t w ν none = 0
 value_t w ν (node c o l r) = cond (member w.leaves c) (ν (node c o l r)) (combine w.range c o (value_t w ν l) (value_t w ν r))
 
 -- the value of a tree at a row, which has a value for each slot
-unfoldable pub row_value : List ℕ → Reading → List ℕ → List ℕ → Tree → ℕ
+unfoldable pub row_value : List ℕ → Reading → List Slot → List ℕ → Tree → ℕ
 row_value s w q values t = value_t w (λ u. value_in values (slot_of s q u)) t
 
 -- the values of a tree at the first n rows
-unfoldable pub column_of : List ℕ → Reading → List ℕ → List ℕ → ℕ → Tree → List ℕ
+unfoldable pub column_of : List ℕ → Reading → List Slot → List ℕ → ℕ → Tree → List ℕ
 column_of s w q ms n t = column (λ i. row_value s w q (row_in ms i) t) n
 
 -- the level of a tree: how many of the first slots its value depends on
-unfoldable pub level_of : List ℕ → Reading → List ℕ → Tree → ℕ
+unfoldable pub level_of : List ℕ → Reading → List Slot → Tree → ℕ
 level_of s w q none = 0
 level_of s w q (node c o l r) = cond (member w.leaves c) (level_in (slot_of s q (node c o l r))) (max (level_of s w q l) (level_of s w q r))
 
 -- the period of a tree's values, n at most
-unfoldable pub span_t : List ℕ → Reading → List ℕ → List ℕ → ℕ → Tree → ℕ
+unfoldable pub span_t : List ℕ → Reading → List Slot → List ℕ → ℕ → Tree → ℕ
 span_t s w q ms n t = span_of n ms (level_of s w q t)
 
 -- there is nothing to combine at a position: no nesting is left, it has no parts, or it is a leaf
@@ -38,15 +38,15 @@ unfoldable pub leaf_at : List ℕ → Reading → ℕ → ℕ → Bool
 leaf_at s w k at = cond (eqb k 0) true (cond (eqb (node_at s at).parts 0) true (member w.leaves (node_at s at).code))
 
 -- the column at a position if there is nothing to combine; else the rows of out
-unfoldable pub leaf_column : List ℕ → Reading → List ℕ → List ℕ → ℕ → ℕ → ℕ → List ℕ → List ℕ
+unfoldable pub leaf_column : List ℕ → Reading → List Slot → List ℕ → ℕ → ℕ → ℕ → List ℕ → List ℕ
 leaf_column s w q ms n k at out = cond (leaf_at s w k at) (column_of s w q ms n (parse_tree s k at).tree) (take n out)
 
--- whether there is nothing to combine at a position, and the level if so
-unfoldable pub met_at : List ℕ → Reading → List ℕ → ℕ → ℕ → Met
-met_at s w q k at = record { leaf = leaf_at s w k at; level = cond (leaf_at s w k at) (level_of s w q (parse_tree s k at).tree) 0 }
+-- the level at a position if there is nothing to combine
+unfoldable pub met_at : List ℕ → Reading → List Slot → ℕ → ℕ → Option ℕ
+met_at s w q k at = cond (leaf_at s w k at) (Some (level_of s w q (parse_tree s k at).tree)) None
 
 -- the position past a formula, and its level
-unfoldable pub reached_at : List ℕ → Reading → List ℕ → ℕ → ℕ → Reached
+unfoldable pub reached_at : List ℕ → Reading → List Slot → ℕ → ℕ → Reached
 reached_at s w q k at = record { end = (parse_tree s k at).end; level = level_of s w q (parse_tree s k at).tree }
 
 -- two columns, known up to their periods, combined up to the period of both

@@ -1,6 +1,7 @@
 // Rows that advance like digits: the column of one digit, and the values of a formula at all rows, from the row of zeros on.
 #![tactic(auto)]
 
+pub mod rows;
 pub mod run;
 pub mod slot_column;
 

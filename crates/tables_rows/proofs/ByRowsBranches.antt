@@ -16,56 +16,53 @@ use Rattle.tables_rows.specs.EveryRow.{every_t, every_by, every_of}
 use Rattle.tables_bits.specs.TruthTable.{by_leaves}
 use Rattle.tables_rows.specs.ByRows.{by_names, rows_t, table_t, line_of, premises_of}
 use Rattle.tables_digits.specs.declared.value_column.Reading.{Reading}
+use Rattle.tables_rows.specs.declared.entailment.Implication.{Implication}
 use Rattle.tables_rows.specs.declared.entailment.Task.{Task}
 use Rattle.tables_rows.specs.declared.by_rows.Implications.{Implications}
 use Rattle.tables_rows.proofs.DistinctLeaves.{cut, imps_cut, every_cut}
 
-module _ (s lefts rights : List ℕ) (t : Task) where
-  all_is : (w : ℕ) → gather_all s lefts rights t w ≡ cut
-      (distinct same_tree (leaves_all w (imp_of s lefts rights t 0 ∷ premises_from s lefts rights t 0)))
+module _ (s : List ℕ) (pairs : List Implication) (t : Task) where
+  all_is : (w : ℕ) → gather_all s pairs t w ≡ cut
+      (distinct same_tree (leaves_all w (imp_of s pairs t 0 ∷ premises_from s pairs t 0)))
   unfolding gather_all gather_imps
-  all_is w = imps_cut w (imp_of s lefts rights t 0 ∷ premises_from s lefts rights t 0)
+  all_is w = imps_cut w (imp_of s pairs t 0 ∷ premises_from s pairs t 0)
 
   every_is : (w : Reading) (limit : ℕ) → 2 ≤ w.range → limit ≤ 4096
-      → every_of s lefts rights t w limit ≡ every_t w limit (premises_from s lefts rights t 0) (imp_of s lefts rights t 0)
+      → every_of s pairs t w limit ≡ every_t w limit (premises_from s pairs t 0) (imp_of s pairs t 0)
   unfolding every_of
   every_is w limit two h =
-      ap (λ (m : Gathered). every_by m w limit (premises_from s lefts rights t 0) (imp_of s lefts rights t 0)) (all_is w.leaves)
+      ap (λ (m : Gathered). every_by m w limit (premises_from s pairs t 0) (imp_of s pairs t 0)) (all_is w.leaves)
       ∙ every_cut w.range two limit h (distinct same_tree
-      (leaves_all w.leaves (imp_of s lefts rights t 0 ∷ premises_from s lefts rights t 0))) w refl (premises_from s lefts rights t 0)
-      (imp_of s lefts rights t 0)
+      (leaves_all w.leaves (imp_of s pairs t 0 ∷ premises_from s pairs t 0))) w refl (premises_from s pairs t 0)
+      (imp_of s pairs t 0)
 
 pub by_few : (R : ℕ) (u v : Tree) → R < 2 → false ≡ rows_t R u v
 unfolding rows_t
 by_few R u v h = rw (lt-ltb _ _ h)
 
 pub by_names_lem : (s : List ℕ) (a m b k R : ℕ) (r : Bool) → 2 ≤ R
-    → r ≡ every_of s (a ∷ 0 ∷ 0 ∷ 0 ∷ 0 ∷ []) (b ∷ 0 ∷ 0 ∷ 0 ∷ 0 ∷ []) (record { premises = 0; left = m; right = k }) (by_names R)
-    Limits.rows
+    → r ≡ every_of s (record { left = a; right = b } ∷ []) (record { premises = 0; left = m; right = k }) (by_names R) Limits.rows
     → r ≡ rows_t R (parse_tree s m a).tree (parse_tree s k b).tree
 unfolding rows_t premises_from imps_from imp_of
-by_names_lem s a m b k R r h e = e ∙ every_is s lefts rights t (by_names R) Limits.rows h (omega arith) ∙ rw (le-ltb _ _ h) both
+by_names_lem s a m b k R r h e = e ∙ every_is s pairs t (by_names R) Limits.rows h (omega arith) ∙ rw (le-ltb _ _ h) both
   where
-    lefts : List ℕ
-    lefts = a ∷ 0 ∷ 0 ∷ 0 ∷ 0 ∷ []
-
-    rights : List ℕ
-    rights = b ∷ 0 ∷ 0 ∷ 0 ∷ 0 ∷ []
+    pairs : List Implication
+    pairs = record { left = a; right = b } ∷ []
 
     t : Task
     t = record { premises = 0; left = m; right = k }
 
-    both : every_t (by_names R) Limits.rows (premises_from s lefts rights t 0) (imp_of s lefts rights t 0) ≡ every_t (by_names R) Limits.rows []
+    both : every_t (by_names R) Limits.rows (premises_from s pairs t 0) (imp_of s pairs t 0) ≡ every_t (by_names R) Limits.rows []
         (record { left = (parse_tree s m a).tree; right = (parse_tree s k b).tree })
     both = refl
 
 pub by-leaves : (s : List ℕ) (p : Implications) (n : ℕ) (r : Bool) → n ≡ p.count - 1
-    → r ≡ every_of s p.left p.right (record { premises = n; left = nesting; right = nesting }) by_leaves 1024
+    → r ≡ every_of s p.pairs (record { premises = n; left = nesting; right = nesting }) by_leaves 1024
     → r ≡ table_t (premises_of s p) (line_of s p)
 unfolding table_t
 by-leaves s p n r en e =
-    e ∙ ap (λ (m : ℕ). every_of s p.left p.right (record { premises = m; left = nesting; right = nesting }) by_leaves 1024) en
-    ∙ every_is s p.left p.right (record { premises = p.count - 1; left = nesting; right = nesting }) by_leaves 1024 (omega arith)
+    e ∙ ap (λ (m : ℕ). every_of s p.pairs (record { premises = m; left = nesting; right = nesting }) by_leaves 1024) en
+    ∙ every_is s p.pairs (record { premises = p.count - 1; left = nesting; right = nesting }) by_leaves 1024 (omega arith)
     (omega arith)
 
 pub ruleset by_rows_branches = (by_few, by_names_lem, by-leaves)

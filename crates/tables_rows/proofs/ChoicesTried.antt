@@ -15,6 +15,7 @@ use Rattle.semantics.proofs.Base.{bool_ext, and_left, and_right, and_both}
 use Rattle.logic.proofs.Rows.{all_below_at}
 use Rattle.formula.specs.Tree.{Tree}
 use Rattle.formula_compare.specs.Same.{same_tree}
+use Rattle.tables_columns.specs.declared.slot.Slot.{Slot}
 use Rattle.tables_columns.specs.Slots.{slots, slot_at, slot_from, slot_of, kept}
 use Rattle.tables_columns.specs.Count.{choices_t}
 use Rattle.tables_columns.proofs.SlotBranches.{from_least, from_next}
@@ -27,15 +28,16 @@ use Rattle.tables_digits.specs.ValueColumn.{row_value}
 use Rattle.tables_rows.specs.Entailment.{ImpT, imp_t, entails_t, imp_of, premises_from, imp_at, all_at, entails_at}
 use Rattle.tables_rows.specs.EveryRow.{lasts_of, tried_rows, rows_hold}
 use Rattle.tables_digits.specs.declared.value_column.Reading.{Reading}
+use Rattle.tables_rows.specs.declared.entailment.Implication.{Implication}
 use Rattle.tables_rows.specs.declared.entailment.Task.{Task}
 use Rattle.tables_rows.proofs.DistinctLeaves.{choices_two}
 
 -- the row that the slots from j on hold
-abbrev row_at : List ℕ → List ℕ → ℕ → List ℕ → Tree → ℕ
+abbrev row_at : List ℕ → List Slot → ℕ → List ℕ → Tree → ℕ
 row_at s q j values u = value_in values (slot_from s q (slots - j) j u)
 
 -- the entailment at the row in the slots
-module _ (s : List ℕ) (w : Reading) (q values : List ℕ) where
+module _ (s : List ℕ) (w : Reading) (q : List Slot) (values : List ℕ) where
   imp_is : (p : ImpT) → imp_at s w q values p ≡ imp_t w (row_at s q 0 values) p
   unfolding imp_at row_value slot_of
   imp_is p = go (eqb (row_value s w q values p.left) 1)
@@ -54,12 +56,12 @@ module _ (s : List ℕ) (w : Reading) (q values : List ℕ) where
       go true b = refl
       go false b = refl
 
-  entails_is : (lefts rights : List ℕ) (t : Task) → entails_at s lefts rights t w q values ≡ entails_t w (premises_from s lefts rights t 0)
-      (imp_of s lefts rights t 0) (row_at s q 0 values)
+  entails_is : (pairs : List Implication) (t : Task) → entails_at s pairs t w q values ≡ entails_t w (premises_from s pairs t 0)
+      (imp_of s pairs t 0) (row_at s q 0 values)
   unfolding entails_at
-  entails_is lefts rights t = ap₂ (λ (a b : Bool). cond a true (not b)) (imp_is (imp_of s lefts rights t 0))
-      (all_is (premises_from s lefts rights t 0)) ∙ go (imp_t w (row_at s q 0 values) (imp_of s lefts rights t 0))
-      (all (imp_t w (row_at s q 0 values)) (premises_from s lefts rights t 0))
+  entails_is pairs t = ap₂ (λ (a b : Bool). cond a true (not b)) (imp_is (imp_of s pairs t 0))
+      (all_is (premises_from s pairs t 0)) ∙ go (imp_t w (row_at s q 0 values) (imp_of s pairs t 0))
+      (all (imp_t w (row_at s q 0 values)) (premises_from s pairs t 0))
     where
       go : (a b : Bool) → cond a true (not b) ≡ (not b || a)
       go true true = refl
@@ -68,13 +70,13 @@ module _ (s : List ℕ) (w : Reading) (q values : List ℕ) where
       go false false = refl
 
 -- every choice of values for the first j slots; the others are as given
-abbrev rows_by : List ℕ → List ℕ → List ℕ → Task → Reading → List ℕ → ℕ → List ℕ → Bool
-rows_by s lefts rights t w q j values =
-    all_rows same_tree (choices_t w.range) (kept s q j) (entails_t w (premises_from s lefts rights t 0) (imp_of s lefts rights t 0))
+abbrev rows_by : List ℕ → List Implication → Task → Reading → List Slot → ℕ → List ℕ → Bool
+rows_by s pairs t w q j values =
+    all_rows same_tree (choices_t w.range) (kept s q j) (entails_t w (premises_from s pairs t 0) (imp_of s pairs t 0))
     (λ u. value_in values (slot_from s q (slots - j) j u))
 
 -- a value set in a slot is a choice for its leaf
-row_chosen : (s q values : List ℕ) (j k : ℕ) → length values ≡ slots → j < slots
+row_chosen : (s : List ℕ) (q : List Slot) (values : List ℕ) (j k : ℕ) → length values ≡ slots → j < slots
     → choose same_tree (row_at s q (j + 1) values) (slot_at s q j) k ≡ row_at s q j (set values j k)
 unfolding choose value_in
 row_chosen s q values j k l h = fun_ext (λ u. go u (same_tree u (slot_at s q j)) refl)
@@ -86,10 +88,10 @@ row_chosen s q values j k l h = fun_ext (λ u. go u (same_tree u (slot_at s q j)
         (sym (get_or-set_other values j (slot_from s q (slots - (j + 1)) (j + 1) u) k 0
         (λ d. omega (arith, from_least s q u (slots - (j + 1)) (j + 1))))))
 
-module _ (s lefts rights : List ℕ) (t : Task) (w : Reading) (q : List ℕ) where
+module _ (s : List ℕ) (pairs : List Implication) (t : Task) (w : Reading) (q : List Slot) where
   rows_step : (j : ℕ) (values : List ℕ) → length values ≡ slots → j < slots
-      → rows_by s lefts rights t w q (j + 1) values ≡ all_below (choices_t w.range (slot_at s q j))
-      (λ k. rows_by s lefts rights t w q j (set values j k))
+      → rows_by s pairs t w q (j + 1) values ≡ all_below (choices_t w.range (slot_at s q j))
+      (λ k. rows_by s pairs t w q j (set values j k))
   rows_step j values l h =
       ap (λ (l : List Tree). all_rows same_tree (choices_t w.range) l f (row_at s q (j + 1) values))
       (ap (kept s q) (omega arith) ∙ kept_step s q j)
@@ -97,13 +99,13 @@ module _ (s lefts rights : List ℕ) (t : Task) (w : Reading) (q : List ℕ) whe
       (fun_ext (λ k. ap (all_rows same_tree (choices_t w.range) (kept s q j) f) (row_chosen s q values j k l h)))
     where
       f : (Tree → ℕ) → Bool
-      f = entails_t w (premises_from s lefts rights t 0) (imp_of s lefts rights t 0)
+      f = entails_t w (premises_from s pairs t 0) (imp_of s pairs t 0)
 
-  rows_zero : (values : List ℕ) → rows_by s lefts rights t w q 0 values ≡ entails_at s lefts rights t w q values
+  rows_zero : (values : List ℕ) → rows_by s pairs t w q 0 values ≡ entails_at s pairs t w q values
   rows_zero values =
       ap (λ (k : List Tree). all_rows same_tree (choices_t w.range) k
-      (entails_t w (premises_from s lefts rights t 0) (imp_of s lefts rights t 0)) (row_at s q 0 values)) (kept_none s q)
-      ∙ sym (entails_is s w q values lefts rights t)
+      (entails_t w (premises_from s pairs t 0) (imp_of s pairs t 0)) (row_at s q 0 values)) (kept_none s q)
+      ∙ sym (entails_is s w q values pairs t)
 
 -- every number below another
 pub below_same : (n : ℕ) (f g : ℕ → Bool) → ((i : ℕ) → i < n → f i ≡ g i) → all_below n f ≡ all_below n g
@@ -165,7 +167,7 @@ rows_none zero = refl
 rows_none (suc n) = one-mul (rows_of (replicate n 0)) ∙ rows_none n
 
 -- the last values
-module _ (s q : List ℕ) (R : ℕ) where
+module _ (s : List ℕ) (q : List Slot) (R : ℕ) where
   abbrev chosen : ℕ → ℕ
   chosen j = choices_t R (slot_at s q j)
 
@@ -226,9 +228,9 @@ module _ (s q : List ℕ) (R : ℕ) where
         self : (k : ℕ) → ltb k k ≡ false
         self k = le-ltb k k (omega arith)
 
-module _ (s lefts rights : List ℕ) (t : Task) (w : Reading) (q : List ℕ) (two : 2 ≤ w.range) where
+module _ (s : List ℕ) (pairs : List Implication) (t : Task) (w : Reading) (q : List Slot) (two : 2 ≤ w.range) where
   abbrev E : List ℕ → Bool
-  E = entails_at s lefts rights t w q
+  E = entails_at s pairs t w q
 
   abbrev c : ℕ → ℕ
   c j = choices_t w.range (slot_at s q j)
@@ -239,21 +241,21 @@ module _ (s lefts rights : List ℕ) (t : Task) (w : Reading) (q : List ℕ) (tw
     front : (i : ℕ) → i < j → get_or r i 0 < c i
     behind : (i : ℕ) → j ≤ i → get_or r i 0 ≡ get_or values i 0
 
-  each_row : (j : ℕ) (values : List ℕ) → length values ≡ slots → j ≤ slots → T (rows_by s lefts rights t w q j values) → (r : List ℕ)
+  each_row : (j : ℕ) (values : List ℕ) → length values ≡ slots → j ≤ slots → T (rows_by s pairs t w q j values) → (r : List ℕ)
       → Of j values r → T (E r)
-  each_row zero values l h p r o = subst T (rows_zero s lefts rights t w q values
+  each_row zero values l h p r o = subst T (rows_zero s pairs t w q values
       ∙ ap E (ext_get_or 0 values r (l ∙ sym o.long) (λ i k. sym (o.behind i (omega arith))))) p
   each_row (suc j) values l h p r o =
       each_row j (set values j v) (length-set values j v ∙ l) (omega arith)
-      (all_below_at (c j) (λ k. rows_by s lefts rights t w q j (set values j k)) (subst T stepped p) v (o.front j (omega arith))) r
+      (all_below_at (c j) (λ k. rows_by s pairs t w q j (set values j k)) (subst T stepped p) v (o.front j (omega arith))) r
       (record { long = o.long; front = λ i k. o.front i (omega arith); behind = λ i k. go i k (eqb i j) refl })
     where
       v : ℕ
       v = get_or r j 0
 
-      stepped : rows_by s lefts rights t w q (suc j) values ≡ all_below (c j) (λ k. rows_by s lefts rights t w q j (set values j k))
+      stepped : rows_by s pairs t w q (suc j) values ≡ all_below (c j) (λ k. rows_by s pairs t w q j (set values j k))
       stepped = let e : suc j ≡ j + 1 = omega arith in
-          ap (λ (n : ℕ). rows_by s lefts rights t w q n values) e ∙ rows_step s lefts rights t w q j values l (omega arith)
+          ap (λ (n : ℕ). rows_by s pairs t w q n values) e ∙ rows_step s pairs t w q j values l (omega arith)
 
       go : (i : ℕ) → j ≤ i → (b : Bool) → eqb i j ≡ b → get_or r i 0 ≡ get_or (set values j v) i 0
       go i k true e = let z : i ≡ j = eqb-true i j e in
@@ -261,12 +263,12 @@ module _ (s lefts rights : List ℕ) (t : Task) (w : Reading) (q : List ℕ) (tw
       go i k false e = let z : i ≡ j → ⊥ = eqb-false i j e in o.behind i (omega arith) ∙ sym (get_or-set_other values j i v 0 z)
 
   all-rows : (j : ℕ) (values : List ℕ) → length values ≡ slots → j ≤ slots → ((r : List ℕ) → Of j values r → T (E r))
-      → T (rows_by s lefts rights t w q j values)
-  all-rows zero values l h f = subst T (sym (rows_zero s lefts rights t w q values))
+      → T (rows_by s pairs t w q j values)
+  all-rows zero values l h f = subst T (sym (rows_zero s pairs t w q values))
       (f values (record { long = l; front = λ i k. absurd (omega arith); behind = λ i k. refl }))
   all-rows (suc j) values l h f =
       subst T (sym stepped)
-      (below_from (c j) (λ k. rows_by s lefts rights t w q j (set values j k)) (λ v hv.
+      (below_from (c j) (λ k. rows_by s pairs t w q j (set values j k)) (λ v hv.
       all-rows j (set values j v) (length-set values j v ∙ l) (omega arith)
       (λ r o. f r
       (record {
@@ -276,9 +278,9 @@ module _ (s lefts rights : List ℕ) (t : Task) (w : Reading) (q : List ℕ) (tw
             ∙ get_or-set_other values j i v 0 (λ e. omega arith);
       }))))
     where
-      stepped : rows_by s lefts rights t w q (suc j) values ≡ all_below (c j) (λ k. rows_by s lefts rights t w q j (set values j k))
+      stepped : rows_by s pairs t w q (suc j) values ≡ all_below (c j) (λ k. rows_by s pairs t w q j (set values j k))
       stepped = let e : suc j ≡ j + 1 = omega arith in
-          ap (λ (n : ℕ). rows_by s lefts rights t w q n values) e ∙ rows_step s lefts rights t w q j values l (omega arith)
+          ap (λ (n : ℕ). rows_by s pairs t w q n values) e ∙ rows_step s pairs t w q j values l (omega arith)
 
       front : (v : ℕ) → v < c j → (r : List ℕ) → Of j (set values j v) r → (i : ℕ) → i < suc j → (b : Bool) → eqb i j ≡ b → get_or r i 0 < c i
       front v hv r o i k true e =
@@ -337,10 +339,10 @@ module _ (s lefts rights : List ℕ) (t : Task) (w : Reading) (q : List ℕ) (tw
 
     module _ (n : ℕ) (en : n ≡ rows_of ms) where
       -- so what holds at each holds at every row of the logic
-      pub rows_tried : rows_hold s lefts rights t w q k n ≡ rows_by s lefts rights t w q k none
+      pub rows_tried : rows_hold s pairs t w q k n ≡ rows_by s pairs t w q k none
       unfolding rows_hold
       rows_tried =
-          bool_ext (all E rows) (rows_by s lefts rights t w q k none)
+          bool_ext (all E rows) (rows_by s pairs t w q k none)
           (λ p. all-rows k none refl h (λ r o. let i = once.tried r (choice_of r o) in
           subst (λ (r : List ℕ). T (E r)) i.2 (all-at E [] rows p i.0 i.1)))
           (λ p. all_from E [] rows (λ i b. each_row k none refl h p (get_or rows i []) (of_choice (get_or rows i []) (once.choices i b))))

@@ -12,7 +12,7 @@ use borrow.Author.Tests.{le-leb, lt-leb, ltb-true, ltb-false}
 use Rattle.semantics.specs.Base.{all}
 use Rattle.logic.specs.Rows.{all_rows, row_count}
 use Rattle.formula_compare.specs.Same.{same_tree}
-use Rattle.tables_columns.specs.Slots.{slots, slot_tree, numbers, slot_at, slot_from, kept}
+use Rattle.tables_columns.specs.Slots.{slots, slot_tree, nth, slot_at, slot_from, kept}
 use Rattle.tables_columns.specs.Gather.{view}
 use Rattle.tables_columns.specs.Count.{choices_t, capped, rows_up_to}
 use Rattle.tables_columns.specs.declared.slot.Slot.{Slot}
@@ -25,30 +25,25 @@ use Rattle.tables_digits.proofs.EachRowOnce.{from_at, from_long}
 use Rattle.tables_rows.specs.Entailment.{ImpT, entails_t, imp_of, premises_from, imp_at, all_at, entails_at, imp_fails, gather_all}
 use Rattle.tables_rows.specs.EveryRow.{lasts_of, tried_rows, hold_from, rows_hold, every_of}
 use Rattle.tables_digits.specs.declared.value_column.Reading.{Reading}
+use Rattle.tables_rows.specs.declared.entailment.Implication.{Implication}
 use Rattle.tables_rows.specs.declared.entailment.Task.{Task}
 use Rattle.tables_rows.proofs.EntailmentBranches.{prems_end}
 use Rattle.tables_rows.proofs.ChoicesTried.{all-below, lasts_step, rows_count, tried_once, rows_tried}
 
-pub last_none : (c : ℕ) → c ≡ 0 → 0 ≡ c - 1
-last_none c e = omega arith
-
 -- the last values, slot by slot
-module _ (s q : List ℕ) (R : ℕ) (a : List ℕ) where
+module _ (s : List ℕ) (q : List Slot) (R : ℕ) (a : List ℕ) where
   pub lasts_begin : a ≡ replicate 12 0 → a ≡ lasts_of s q R 0
   unfolding lasts_of
   lasts_begin e = e
 
-  pub lasts_more : (j k c x : ℕ) (p : Slot) → a ≡ lasts_of s q R j → p ≡ numbers q j → c ≡ choices_t R (slot_tree s p) → x ≡ c - 1
+  pub lasts_more : (j k c x : ℕ) (p : Slot) → a ≡ lasts_of s q R j → p ≡ nth q j → c ≡ choices_t R (slot_tree s p) → x ≡ c - 1
       → set a j x ≡ lasts_of s q R (j + 1)
   unfolding slot_at
   lasts_more j k c x p e ep ec ex =
       ap₂ (λ (l : List ℕ) (y : ℕ). set l j y) e (ex ∙ ap (λ (n : ℕ). n - 1) (ec ∙ ap (λ (p : Slot). choices_t R (slot_tree s p)) ep))
       ∙ sym (ap (lasts_of s q R) (add-one j) ∙ lasts_step s q R j)
 
-  pub lasts_end : (j k : ℕ) → j ≤ k → k ≤ j → a ≡ lasts_of s q R j → a ≡ lasts_of s q R k
-  lasts_end j k h l e = let z : j ≡ k = omega arith in e ∙ ap (lasts_of s q R) z
-
-pub ruleset fill_lasts_branches = (last_none, lasts_begin, lasts_more, lasts_end)
+pub ruleset fill_lasts_branches = (lasts_begin, lasts_more)
 
 -- where all values are 0 the row is 0 everywhere
 zeros : (n i : ℕ) → get_or (replicate {A = ℕ} n 0) i 0 ≡ 0
@@ -65,43 +60,43 @@ zero_in i = go (ltb i slots)
     go false = refl
 
 -- the rows at which nothing fails
-pub none_fail : (s lefts rights : List ℕ) (t : Task) (w : Reading) (q ms : List ℕ) (n : ℕ) (fails : List ℕ) (r : Bool) → t.premises ≡ 0
-    → take n fails ≡ imp_fails s w q ms n (imp_of s lefts rights t 0) → r ≡ none_below fails n
-    → r ≡ hold_from s lefts rights t w q ms n
+pub none_fail : (s : List ℕ) (pairs : List Implication) (t : Task) (w : Reading) (q : List Slot) (ms : List ℕ) (n : ℕ) (fails : List ℕ) (r : Bool) → t.premises ≡ 0
+    → take n fails ≡ imp_fails s w q ms n (imp_of s pairs t 0) → r ≡ none_below fails n
+    → r ≡ hold_from s pairs t w q ms n
 unfolding imp_fails none_below hold_from entails_at all_at row_in
-none_fail s lefts rights t w q ms n fails r z ef er =
-    er ∙ all-below (entails_at s lefts rights t w q) [] (rows_from ms n (replicate slots 0)) n (λ i. not (eqb (get_or fails i 0) 1))
+none_fail s pairs t w q ms n fails r z ef er =
+    er ∙ all-below (entails_at s pairs t w q) [] (rows_from ms n (replicate slots 0)) n (λ i. not (eqb (get_or fails i 0) 1))
     (from_long ms n (replicate slots 0)) (λ i h.
     ap (λ (m : ℕ). not (eqb m 1)) (column_at failing 0 fails n i ef h)
-    ∙ go (imp_at s w q (row_in ms i) (imp_of s lefts rights t 0))
-    ∙ ap (λ (l : List ImpT). cond (imp_at s w q (row_in ms i) (imp_of s lefts rights t 0)) true (not (all_at s w q (row_in ms i) l)))
-    (sym (prems_end s lefts rights t 0 (omega arith)))
-    ∙ ap (entails_at s lefts rights t w q) (sym (from_at ms n i (replicate slots 0) h)))
+    ∙ go (imp_at s w q (row_in ms i) (imp_of s pairs t 0))
+    ∙ ap (λ (l : List ImpT). cond (imp_at s w q (row_in ms i) (imp_of s pairs t 0)) true (not (all_at s w q (row_in ms i) l)))
+    (sym (prems_end s pairs t 0 (omega arith)))
+    ∙ ap (entails_at s pairs t w q) (sym (from_at ms n i (replicate slots 0) h)))
   where
     failing : ℕ → ℕ
-    failing i = cond (imp_at s w q (row_in ms i) (imp_of s lefts rights t 0)) 0 1
+    failing i = cond (imp_at s w q (row_in ms i) (imp_of s pairs t 0)) 0 1
 
     go : (x : Bool) → not (eqb (cond {A = ℕ} x 0 1) 1) ≡ cond x true (not true)
     go true = refl
     go false = refl
 
 -- by the last values of the slots
-pub rows-hold : (s lefts rights : List ℕ) (t : Task) (w : Reading) (q : List ℕ) (k n : ℕ) (ms : List ℕ) (r : Bool)
-    → ms ≡ lasts_of s q w.range k → r ≡ hold_from s lefts rights t w q ms n → r ≡ rows_hold s lefts rights t w q k n
+pub rows-hold : (s : List ℕ) (pairs : List Implication) (t : Task) (w : Reading) (q : List Slot) (k n : ℕ) (ms : List ℕ) (r : Bool)
+    → ms ≡ lasts_of s q w.range k → r ≡ hold_from s pairs t w q ms n → r ≡ rows_hold s pairs t w q k n
 unfolding hold_from rows_hold tried_rows
-rows-hold s lefts rights t w q k n ms r em e = e ∙ ap
-    (λ (ms : List ℕ). all (entails_at s lefts rights t w q) (rows_from ms n (replicate slots 0))) em
+rows-hold s pairs t w q k n ms r em e = e ∙ ap
+    (λ (ms : List ℕ). all (entails_at s pairs t w q) (rows_from ms n (replicate slots 0))) em
 
 -- what is tried is every choice exactly once
-pub rows_once : (s q : List ℕ) (w : Reading) (k n : ℕ) → n ≡ rows_of (lasts_of s q w.range k)
+pub rows_once : (s : List ℕ) (q : List Slot) (w : Reading) (k n : ℕ) → n ≡ rows_of (lasts_of s q w.range k)
     → EveryOnce (lasts_of s q w.range k) (tried_rows s q w.range k n)
 rows_once s q w k n e = tried_once s q w.range k n e
 
 pub ruleset every_row_holding = (none_fail, rows-hold, rows_once)
 
-module _ (s lefts rights : List ℕ) (t : Task) (w : Reading) (limit n : ℕ) (q : List ℕ)
-    (eg : view s n q ≡ gather_all s lefts rights t w.leaves) where
-  pub every_many : slots < n → false ≡ every_of s lefts rights t w limit
+module _ (s : List ℕ) (pairs : List Implication) (t : Task) (w : Reading) (limit n : ℕ) (q : List Slot)
+    (eg : view s n q ≡ gather_all s pairs t w.leaves) where
+  pub every_many : slots < n → false ≡ every_of s pairs t w limit
   unfolding every_of
   every_many h = rw (← eg, view_many s n q h)
 
@@ -131,20 +126,20 @@ module _ (s lefts rights : List ℕ) (t : Task) (w : Reading) (limit n : ℕ) (q
         go true e d = absurd (omega arith)
         go false e d = d ∙ one-mul count
 
-    pub every_over : limit < r → false ≡ every_of s lefts rights t w limit
+    pub every_over : limit < r → false ≡ every_of s pairs t w limit
     unfolding every_of
     every_over l = rw (← eg, view_keys s n q h, lt-leb count limit (counted.0 l))
 
     pub every_rows : 2 ≤ w.range → r ≤ limit → r ≡ rows_of (lasts_of s q w.range n)
     every_rows two l = exact l ∙ sym (rows_count s q w.range two n h)
 
-    pub every_try : (b : Bool) → 2 ≤ w.range → r ≤ limit → b ≡ rows_hold s lefts rights t w q n r → b ≡ every_of s lefts rights t w limit
+    pub every_try : (b : Bool) → 2 ≤ w.range → r ≤ limit → b ≡ rows_hold s pairs t w q n r → b ≡ every_of s pairs t w limit
     unfolding every_of
     every_try b two l e =
-        e ∙ rows_tried s lefts rights t w q two n h r (every_rows two l)
+        e ∙ rows_tried s pairs t w q two n h r (every_rows two l)
         ∙ rw (← eg, view_keys s n q h, le-leb count limit (counted.1 l))
         (ap (all_rows same_tree (choices_t w.range) (kept s q n)
-        (entails_t w (premises_from s lefts rights t 0) (imp_of s lefts rights t 0)))
+        (entails_t w (premises_from s pairs t 0) (imp_of s pairs t 0)))
         (fun_ext (λ u. zero_in (slot_from s q (slots - n) n u))))
 
 pub ruleset every_row_everys = (every_many, every_over, every_rows, every_try)

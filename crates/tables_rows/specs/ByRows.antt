@@ -30,8 +30,8 @@ task_of p = record { premises = p.count - 1; left = nesting; right = nesting }
 
 -- the line, as trees
 abbrev pub line_of : List ℕ → Implications → ImpT
-line_of s p = imp_of s p.left p.right (task_of p) 0
+line_of s p = imp_of s p.pairs (task_of p) 0
 
 -- the premises of the line, as trees
 abbrev pub premises_of : List ℕ → Implications → List ImpT
-premises_of s p = premises_from s p.left p.right (task_of p) 0
+premises_of s p = premises_from s p.pairs (task_of p) 0

@@ -4,9 +4,11 @@ use Rattle.semantics.specs.Base.{all}
 use Rattle.formula.specs.Tree.{Tree, parse_tree}
 use Rattle.tables_columns.specs.Gather.{Gathered, keys, leaves_t, gather_t}
 use Rattle.tables_columns.specs.Column.{column}
+use Rattle.tables_columns.specs.declared.slot.Slot.{Slot}
 use Rattle.tables_digits.specs.SlotColumn.{row_in}
 use Rattle.tables_digits.specs.ValueColumn.{value_t, row_value}
 use Rattle.tables_digits.specs.declared.value_column.Reading.{Reading}
+use Rattle.tables_rows.specs.declared.entailment.Implication.{Implication}
 use Rattle.tables_rows.specs.declared.entailment.Task.{Task}
 
 -- an implication: left and right
@@ -37,40 +39,44 @@ unfoldable pub gather_imps : ℕ → List ImpT → Gathered → Gathered
 gather_imps w [] m = m
 gather_imps w (p ∷ ps) m = gather_imp w p (gather_imps w ps m)
 
--- implication i, by positions: 0 is the line, the premises begin at 1
-unfoldable pub imp_of : List ℕ → List ℕ → List ℕ → Task → ℕ → ImpT
-imp_of s lefts rights t i = record {
-  left = (parse_tree s t.left (get_or lefts i 0)).tree;
-  right = (parse_tree s t.right (get_or rights i 0)).tree;
+-- implication i, by its positions; at 0 past the end
+abbrev pub pair_at : List Implication → ℕ → Implication
+pair_at pairs i = get_or pairs i (record { left = 0; right = 0 })
+
+-- implication i, as trees: 0 is the line, the premises begin at 1
+unfoldable pub imp_of : List ℕ → List Implication → Task → ℕ → ImpT
+imp_of s pairs t i = record {
+  left = (parse_tree s t.left (pair_at pairs i).left).tree;
+  right = (parse_tree s t.right (pair_at pairs i).right).tree;
 }
 
 -- d implications from number i on
-unfoldable pub imps_from : List ℕ → List ℕ → List ℕ → Task → ℕ → ℕ → List ImpT
-imps_from s lefts rights t i zero = []
-imps_from s lefts rights t i (suc d) = imp_of s lefts rights t i ∷ imps_from s lefts rights t (suc i) d
+unfoldable pub imps_from : List ℕ → List Implication → Task → ℕ → ℕ → List ImpT
+imps_from s pairs t i zero = []
+imps_from s pairs t i (suc d) = imp_of s pairs t i ∷ imps_from s pairs t (suc i) d
 
 -- the premises after the first i
-unfoldable pub premises_from : List ℕ → List ℕ → List ℕ → Task → ℕ → List ImpT
-premises_from s lefts rights t i = imps_from s lefts rights t (i + 1) (t.premises - i)
+unfoldable pub premises_from : List ℕ → List Implication → Task → ℕ → List ImpT
+premises_from s pairs t i = imps_from s pairs t (i + 1) (t.premises - i)
 
 -- the implication is true at a row
-unfoldable pub imp_at : List ℕ → Reading → List ℕ → List ℕ → ImpT → Bool
+unfoldable pub imp_at : List ℕ → Reading → List Slot → List ℕ → ImpT → Bool
 imp_at s w q values p = cond (eqb (row_value s w q values p.left) 1) (eqb (row_value s w q values p.right) 1) true
 
 -- all implications are true at a row
-unfoldable pub all_at : List ℕ → Reading → List ℕ → List ℕ → List ImpT → Bool
+unfoldable pub all_at : List ℕ → Reading → List Slot → List ℕ → List ImpT → Bool
 all_at s w q values [] = true
 all_at s w q values (p ∷ ps) = cond (imp_at s w q values p) (all_at s w q values ps) false
 
 -- the line is true at a row, or some premise is not
-unfoldable pub entails_at : List ℕ → List ℕ → List ℕ → Task → Reading → List ℕ → List ℕ → Bool
-entails_at s lefts rights t w q values = cond (imp_at s w q values (imp_of s lefts rights t 0)) true
-    (not (all_at s w q values (premises_from s lefts rights t 0)))
+unfoldable pub entails_at : List ℕ → List Implication → Task → Reading → List Slot → List ℕ → Bool
+entails_at s pairs t w q values = cond (imp_at s w q values (imp_of s pairs t 0)) true
+    (not (all_at s w q values (premises_from s pairs t 0)))
 
 -- the leaves of the line and its premises
-unfoldable pub gather_all : List ℕ → List ℕ → List ℕ → Task → ℕ → Gathered
-gather_all s lefts rights t w = gather_imp w (imp_of s lefts rights t 0) (gather_imps w (premises_from s lefts rights t 0) (keys []))
+unfoldable pub gather_all : List ℕ → List Implication → Task → ℕ → Gathered
+gather_all s pairs t w = gather_imp w (imp_of s pairs t 0) (gather_imps w (premises_from s pairs t 0) (keys []))
 
 -- 1 at the rows at which an implication fails
-unfoldable pub imp_fails : List ℕ → Reading → List ℕ → List ℕ → ℕ → ImpT → List ℕ
+unfoldable pub imp_fails : List ℕ → Reading → List Slot → List ℕ → ℕ → ImpT → List ℕ
 imp_fails s w q ms n p = column (λ i. cond (imp_at s w q (row_in ms i) p) 0 1) n

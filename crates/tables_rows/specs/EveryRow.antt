@@ -6,9 +6,11 @@ use Rattle.formula_compare.specs.Same.{same_tree}
 use Rattle.tables_columns.specs.Slots.{slots, slot_at}
 use Rattle.tables_columns.specs.Gather.{Gathered, many, keys}
 use Rattle.tables_columns.specs.Count.{choices_t}
+use Rattle.tables_columns.specs.declared.slot.Slot.{Slot}
 use Rattle.tables_digits.specs.Advance.{rows_from}
 use Rattle.tables_rows.specs.Entailment.{ImpT, entails_t, leaves_all, imp_of, premises_from, entails_at, gather_all}
 use Rattle.tables_digits.specs.declared.value_column.Reading.{Reading}
+use Rattle.tables_rows.specs.declared.entailment.Implication.{Implication}
 use Rattle.tables_rows.specs.declared.entailment.Task.{Task}
 
 -- there are at most limit rows, and the entailment holds at each: each leaf once, every choice for each
@@ -18,21 +20,21 @@ every_t w limit ps c =
     && every_row same_tree (choices_t w.range) (leaves_all w.leaves (c ∷ ps)) (entails_t w ps c)
 
 -- the last values of the slots: one less than the choices of the first k, 0 for the others
-unfoldable pub lasts_of : List ℕ → List ℕ → ℕ → ℕ → List ℕ
+unfoldable pub lasts_of : List ℕ → List Slot → ℕ → ℕ → List ℕ
 lasts_of s q R zero = replicate slots 0
 lasts_of s q R (suc j) = set (lasts_of s q R j) j (choices_t R (slot_at s q j) - 1)
 
 -- the rows that are tried for k slots: n of them, from the row of zeros on
-unfoldable pub tried_rows : List ℕ → List ℕ → ℕ → ℕ → ℕ → List (List ℕ)
+unfoldable pub tried_rows : List ℕ → List Slot → ℕ → ℕ → ℕ → List (List ℕ)
 tried_rows s q R k n = rows_from (lasts_of s q R k) n (replicate slots 0)
 
 -- the entailment holds at each of n rows from the row of zeros on, by the last values ms
-unfoldable pub hold_from : List ℕ → List ℕ → List ℕ → Task → Reading → List ℕ → List ℕ → ℕ → Bool
-hold_from s lefts rights t w q ms n = all (entails_at s lefts rights t w q) (rows_from ms n (replicate slots 0))
+unfoldable pub hold_from : List ℕ → List Implication → Task → Reading → List Slot → List ℕ → ℕ → Bool
+hold_from s pairs t w q ms n = all (entails_at s pairs t w q) (rows_from ms n (replicate slots 0))
 
 -- the entailment holds at each row that is tried
-unfoldable pub rows_hold : List ℕ → List ℕ → List ℕ → Task → Reading → List ℕ → ℕ → ℕ → Bool
-rows_hold s lefts rights t w q k n = all (entails_at s lefts rights t w q) (tried_rows s q w.range k n)
+unfoldable pub rows_hold : List ℕ → List Implication → Task → Reading → List Slot → ℕ → ℕ → Bool
+rows_hold s pairs t w q k n = all (entails_at s pairs t w q) (tried_rows s q w.range k n)
 
 -- there are at most limit rows by the leaves gathered, and the entailment holds at each
 abbrev pub every_by : Gathered → Reading → ℕ → List ImpT → ImpT → Bool
@@ -41,6 +43,6 @@ every_by (keys l) w limit ps c = leb (row_count same_tree (choices_t w.range) l)
     && all_rows same_tree (choices_t w.range) l (entails_t w ps c) (λ u. 0)
 
 -- there are at most limit rows for the line and its premises, and the entailment holds at each
-unfoldable pub every_of : List ℕ → List ℕ → List ℕ → Task → Reading → ℕ → Bool
-every_of s lefts rights t w limit = every_by (gather_all s lefts rights t w.leaves) w limit (premises_from s lefts rights t 0)
-    (imp_of s lefts rights t 0)
+unfoldable pub every_of : List ℕ → List Implication → Task → Reading → ℕ → Bool
+every_of s pairs t w limit = every_by (gather_all s pairs t w.leaves) w limit (premises_from s pairs t 0)
+    (imp_of s pairs t 0)

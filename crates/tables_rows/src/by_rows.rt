@@ -1,21 +1,21 @@
 // Tests by rows, and assertions by truth table.
-ghost use Rattle.std.specs.Prelude.{◌≡◌, ◌-◌};
+ghost use Rattle.std.specs.Prelude.{◌≡◌};
 ghost use Rattle.formula.specs.Tree.{parse_tree};
 ghost use Rattle.tables_rows.specs.ByRows.{rows_t, table_t, line_of, premises_of};
 
 use crate::by_table::by_bits;
-use crate::entailment::{Sizes, Task};
+use crate::entailment::{Implication, Sizes, Task};
 use crate::every_row::every_row;
 use formula::code::Code;
 use limits::Limits;
 use tables_digits::value_column::Reading;
 
 // Implications between formulas by their positions. The first is the line, the others are its premises; `count` counts all of them.
+// The array has a fixed size, since nothing is on the heap; `premises_of` reads positions 0 past its end.
 #[derive(Clone, Copy)]
 pub struct Implications {
     pub count: usize,
-    pub left: [usize; Sizes::IMPLICATIONS],
-    pub right: [usize; Sizes::IMPLICATIONS],
+    pub pairs: [Implication; Sizes::IMPLICATIONS],
 }
 
 // The codes that count as leaves by rows.
@@ -30,8 +30,10 @@ impl LeafCodes {
         + (1 << Code::COV);
 }
 
+// `at` and `left` are handed on to a recursion that takes them apart, so no struct holds them here.
 // Whether the test at `other_at` is true at every row at which the one at `at` is, with at most 4,096 rows. No image has a range below 2;
 // the first test is there because `every_row` needs two values.
+#[tactic(auto, using(crate::proofs::ByRowsBranches::by_rows_branches, limits::proofs::BranchTests::tests))]
 pub fn by_rows(
     image: &[u8],
     at: usize,
@@ -46,8 +48,10 @@ pub fn by_rows(
     if range < 2 {
         return false;
     }
-    let lefts = [at, 0, 0, 0, 0];
-    let rights = [other_at, 0, 0, 0, 0];
+    let pairs = [Implication {
+        left: at,
+        right: other_at,
+    }];
     let task = Task {
         premises: 0,
         left: left,
@@ -57,29 +61,18 @@ pub fn by_rows(
         leaves: LeafCodes::NAMES,
         range,
     };
-    every_row(image, &lefts, &rights, task, reading, Limits::ROWS as u16)
-}
-
-// `n` - 1, or 0 for 0.
-fn one_less(n: usize) -> usize
-    ensures { result ≡ n - 1 }
-{
-    if n == 0 {
-        return 0;
-    }
-    n - 1
+    every_row(image, &pairs, task, reading, Limits::ROWS as u16)
 }
 
 // Whether the line is true at each row of the truth table at which every premise is, with at most ten leaves.
+#[tactic(auto, using(crate::proofs::ByRowsBranches::by_rows_branches, limits::proofs::BranchTests::tests))]
 pub fn by_table(image: &[u8], imps: Implications) -> bool
     ensures { result ≡ table_t (premises_of image.now imps) (line_of image.now imps) }
 {
-    let lefts = imps.left;
-    let rights = imps.right;
     let task = Task {
-        premises: one_less(imps.count),
+        premises: imps.count.saturating_sub(1),
         left: Limits::NESTING,
         right: Limits::NESTING,
     };
-    by_bits(image, &lefts, &rights, task)
+    by_bits(image, &imps.pairs, task)
 }

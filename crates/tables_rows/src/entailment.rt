@@ -1,12 +1,13 @@
 // Implications at each row, by the values of their sides.
-ghost use Rattle.std.specs.Prelude.{◌≡◌, ◌≤◌, get_or, length, take};
+ghost use Rattle.std.specs.Prelude.{◌≡◌, ◌≤◌, length, take};
 ghost use Rattle.tables_columns.specs.Gather.{view};
-ghost use Rattle.tables_rows.specs.Entailment.{imp_of, imp_fails, gather_imp, gather_all};
+ghost use Rattle.tables_rows.specs.Entailment.{pair_at, imp_of, imp_fails, gather_imp, gather_all};
 
 use tables_columns::column::and_not;
 use tables_columns::gather::gather_at;
-use tables_columns::slot::Slots;
-use tables_digits::value_column::{Reading, whole_column};
+use tables_columns::slot::{Slot, Slots};
+use tables_digits::rows::Rows;
+use tables_digits::value_column::whole_column;
 
 // The sizes of a task.
 #[derive(Drop)]
@@ -17,6 +18,18 @@ impl Sizes {
     pub const IMPLICATIONS: usize = 5;
 }
 
+// An implication between two formulas, by their positions.
+#[derive(Clone, Copy)]
+pub struct Implication {
+    pub left: usize,
+    pub right: usize,
+}
+
+impl Implication {
+    // What is read past the last one.
+    pub const NONE: Implication = Implication { left: 0, right: 0 };
+}
+
 // The number of premises after the line, and the greatest nesting of the left and the right sides.
 #[derive(Clone, Copy)]
 pub struct Task {
@@ -25,86 +38,70 @@ pub struct Task {
     pub right: usize,
 }
 
-// The number at index `i`; 0 past the end.
-pub fn number_at(numbers: &[usize], i: usize) -> usize
-    ensures { result ≡ get_or numbers.now i 0 }
+// The implication at index `i`; with positions 0 past the end.
+pub fn pair_at(pairs: &[Implication], i: usize) -> Implication
+    ensures { result ≡ pair_at pairs.now i }
 {
-    if i < numbers.len() { numbers[i] } else { 0 }
+    if i < pairs.len() {
+        pairs[i]
+    } else {
+        Implication::NONE
+    }
 }
 
+// The image is apart from `pairs` and `task`, since rows have one of their own; `task.premises` is 0 where rows are tried, as `hold_from` asks.
+
 // Writes the rows at which implication `i` fails: 1 there, 0 elsewhere. `room` is scratch space for another column.
+#[tactic(auto, using(crate::proofs::EntailmentBranches::imp_fails_branches, limits::proofs::BranchTests::tests))]
 pub fn imp_fails(
-    image: &[u8],
-    lefts: &[usize],
-    rights: &[usize],
+    pairs: &[Implication],
     task: Task,
     i: usize,
-    reading: Reading,
-    slots: &[usize; Slots::NUMBERS],
-    lasts: &[u8; Slots::COUNT],
-    n: usize,
+    rows: &Rows,
     out: &mut [u8],
     room: &mut [u8],
 )
-    requires { (n ≤ 4096) × ((n ≤ length out.old) × (n ≤ length room.old)) }
-    ensures { take n out.new ≡ imp_fails image.now reading slots.now lasts.now n
-        (imp_of image.now lefts.now rights.now task i) }
+    requires { (rows.now.count ≤ length out.old) × (rows.now.count ≤ length room.old) }
+    ensures { take rows.now.count out.new ≡ imp_fails rows.now.image.now rows.now.reading rows.now.slots.now rows.now.lasts.now
+        rows.now.count (imp_of rows.now.image.now pairs.now task i) }
 {
-    whole_column(
-        image,
-        number_at(lefts, i),
-        task.left,
-        reading,
-        slots,
-        lasts,
-        n,
-        out,
-    );
-    whole_column(
-        image,
-        number_at(rights, i),
-        task.right,
-        reading,
-        slots,
-        lasts,
-        n,
-        room,
-    );
-    and_not(n, out, room);
+    let pair = pair_at(pairs, i);
+    whole_column(rows, pair.left, task.left, out);
+    whole_column(rows, pair.right, task.right, room);
+    and_not(rows.count, out, room);
 }
 
 // Adds the leaves of implication `i`; returns the number of leaves then.
 pub fn gather_imp(
     image: &[u8],
-    lefts: &[usize],
-    rights: &[usize],
+    pairs: &[Implication],
     task: Task,
     i: usize,
     set: u32,
     n: usize,
-    slots: &mut [usize; Slots::NUMBERS],
+    slots: &mut [Slot; Slots::COUNT],
 ) -> usize
-    requires { length slots.old ≡ 36 }
     ensures slots_after { view image.now result slots.new ≡ gather_imp set
-        (imp_of image.now lefts.now rights.now task i) (view image.now n slots.old) }
-    ensures slots_len { length slots.new ≡ 36 }
+        (imp_of image.now pairs.now task i) (view image.now n slots.old) }
+    ensures slots_len { length slots.new ≡ 12 }
 {
-    let m = gather_at(image, number_at(rights, i), task.right, set, n, slots);
-    gather_at(image, number_at(lefts, i), task.left, set, m, slots)
+    let pair = pair_at(pairs, i);
+    let m = gather_at(image, pair.right, task.right, set, n, slots);
+    gather_at(image, pair.left, task.left, set, m, slots)
 }
 
 // Gathers the leaves of a line without premises; returns their number.
+#[tactic(auto, using(crate::proofs::EntailmentBranches::all_alone, limits::proofs::BranchTests::tests))]
 pub fn gather_line(
     image: &[u8],
-    lefts: &[usize],
-    rights: &[usize],
+    pairs: &[Implication],
     task: Task,
     set: u32,
-    slots: &mut [usize; Slots::NUMBERS],
+    slots: &mut [Slot; Slots::COUNT],
 ) -> usize
-    requires { (length slots.old ≡ 36) × (task.premises ≡ 0) }
+    requires { task.premises ≡ 0 }
     ensures { view image.now result slots.new
-        ≡ gather_all image.now lefts.now rights.now task set }
+        ≡ gather_all image.now pairs.now task set }
 {
-    gather_imp(image, lefts, rights, task, 0, set, 0, slots)
+    gather_imp(image, pairs, task, 0, set, 0, slots)
 }

@@ -7,8 +7,8 @@ use lib.ListN.{length, take, drop}
 use lib.Seq.{take-append_seam, drop-append_seam}
 use borrow.Author.Tests.{lt-ltb, le-ltb}
 use Rattle.image_header.specs.declared.sizes.Sizes.{Sizes}
+use Rattle.std.specs.Prelude.{Some, None}
 use Rattle.checker_spec.specs.Acceptance.{acceptance}
-use Rattle.checker_spec.specs.declared.acceptance.Acceptance.TheVariants.{Granted, Declined}
 use Rattle.trim_encode.specs.Answer.{answered_by, buffer_by, answer_for, buffer_for}
 use Rattle.trim_encode.specs.Trimmed.{trimmed_bytes, Trimmed}
 use Rattle.trim_encode.proofs.TrimmedConsequences.{again_same}
@@ -16,7 +16,7 @@ use Rattle.trim.specs.Promise.{Promise}
 
 module _ (image buffer : List ℕ) (code written : ℕ) (after : List ℕ) (p : Promise image buffer code written after) where
   -- "24 image not accepted, first": "0 with an error", and the buffer stays
-  module _ (declined : acceptance image ≡ Declined) where
+  module _ (declined : acceptance image ≡ None) where
     pub not-accepted : code ≡ 24
     unfolding answer_for
     not-accepted = p.returned ∙ rw declined
@@ -29,7 +29,7 @@ module _ (image buffer : List ℕ) (code written : ℕ) (after : List ℕ) (p : 
     unfolding buffer_for
     buffer_kept = p.bytes ∙ rw declined
 
-  module _ (z : Sizes) (granted : acceptance image ≡ Granted z) where
+  module _ (z : Sizes) (granted : acceptance image ≡ Some z) where
     -- "25 output too short"; "The output buffer is written only on success"
     module _ (short : length buffer < length (trimmed_bytes z image)) where
       pub too_short : code ≡ 25
@@ -73,7 +73,7 @@ module _ (image buffer : List ℕ) (code written : ℕ) (after : List ℕ) (p : 
 -- "trimming it again gives the same bytes": two calls, the second on what the first has written
 pub twice : (image buffer : List ℕ) (code written : ℕ) (after : List ℕ) → Promise image buffer code written after → code ≡ 0
     → (buffer₂ : List ℕ) (code₂ written₂ : ℕ) (after₂ : List ℕ) → Promise (take written after) buffer₂ code₂ written₂ after₂
-    → (z : Sizes) → acceptance (take written after) ≡ Granted z → length (take written after) ≤ length buffer₂
+    → (z : Sizes) → acceptance (take written after) ≡ Some z → length (take written after) ≤ length buffer₂
     → take written₂ after₂ ≡ take written after
 twice image buffer code written after p ok buffer₂ code₂ written₂ after₂ q z granted room =
     let e = again_same image (take written after) (p.trimmed ok) z granted in

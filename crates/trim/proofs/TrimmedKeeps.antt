@@ -7,7 +7,6 @@ use lib.ListN.{length}
 use Rattle.image_frames.specs.Records.{bodies}
 use Rattle.image_header.specs.declared.sizes.Sizes.{Sizes}
 use Rattle.image.specs.Decode.{sizes_of, decoded}
-use Rattle.image.specs.declared.decode.Decoded.TheVariants.{Sound}
 use Rattle.logic_outline.specs.Verdict.{Image, Finding, accepted, unmet, denied, finding, Admitted}
 use Rattle.logic_outline.specs.Judged as Outline
 use Rattle.logic_outline.specs.Judged.{EachMet, EachSustained, total, each_met, first_unmet, first-denied}
@@ -17,8 +16,8 @@ use Rattle.image_meaning.specs.Program.{point_count}
 use Rattle.image_meaning.proofs.Admitted.{checks_admitted}
 use Rattle.verdict_record.specs.declared.verdict.Verdict.TheVariants.{Accepted}
 use Rattle.checker_spec.specs.ImageVerdict.{judged, answered, verdict}
+use Rattle.std.specs.Prelude.{Some, Ok}
 use Rattle.checker_spec.specs.Acceptance.{acceptance}
-use Rattle.checker_spec.specs.declared.acceptance.Acceptance.TheVariants.{Granted}
 use Rattle.checker_spec.proofs.AcceptedHolds.{Holds}
 use Rattle.trim_spec.specs.Document.{Document}
 use Rattle.trim_spec.specs.Canonical.{Bytes}
@@ -51,7 +50,7 @@ accepted_met D n A e = go (finding D) (finding_judged D A) e
     go (unmet c o l m) (first_unmet k b f w) q = let x : ◌≡◌ {A = ℕ} 0 1 = cc in absurd (omega arith)
     go (denied i m) (first-denied k h b f g) q = let x : ◌≡◌ {A = ℕ} 0 1 = cc in absurd (omega arith)
 
-granted_same : (y z : Sizes) → Granted y ≡ Granted z → y ≡ z
+granted_same : (y z : Sizes) → Some y ≡ Some z → y ≡ z
 granted_same y z e = cc
 
 module _ (s : List ℕ) (z : Sizes) (b : Bytes s) (H : Holds s z) where
@@ -110,7 +109,7 @@ module _ (s : List ℕ) (z : Sizes) (b : Bytes s) (H : Holds s z) where
   abbrev trimmed : List ℕ
   trimmed = encode E
 
-  sound : decoded trimmed ≡ Sound (sizes E)
+  sound : decoded trimmed ≡ Ok (sizes E)
   sound = decoded_encode E (threads_kept (trimming D whole)) (encodable D whole both.0)
 
   cut : bodies trimmed ≡ bodies_of E
@@ -146,7 +145,7 @@ module _ (s : List ℕ) (z : Sizes) (b : Bytes s) (H : Holds s z) where
   trimmed_is = refl
 
   -- trimming it again gives the same bytes
-  pub trimmed_again : (acceptance (trimmed_bytes z s) ≡ Granted (sizes E)) × (trimmed_bytes (sizes E) (trimmed_bytes z s) ≡ trimmed_bytes z s)
+  pub trimmed_again : (acceptance (trimmed_bytes z s) ≡ Some (sizes E)) × (trimmed_bytes (sizes E) (trimmed_bytes z s) ≡ trimmed_bytes z s)
   unfolding trimmed_bytes acceptance trim
   trimmed_again = (rw (sound, trimmed_counted), rw trimmed_document (ap encode (again D (named D whole) (written D whole))))
 

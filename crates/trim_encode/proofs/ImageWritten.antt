@@ -1,9 +1,8 @@
 -- What is written is the trimmed document's bytes.
 use mathlib.Core.Path.{◌≡◌, refl, ap, sym, ◌∙◌, fun_ext}
 use mathlib.Core.Bool.{Bool, false, cond}
-use mathlib.Core.List.{List, [], ◌++◌, map, append_assoc}
+use mathlib.Core.List.{List, [], ◌++◌, map}
 use Prim.Native.Nat.{ℕ, ◌+◌, ◌≤◌}
-use native.Mathlib.Nat.{zero-add}
 use native.Mathlib.Omega.{arith}
 use lib.ListN.{length, get_or, drop}
 use Rattle.logic.specs.Obligations.{flat}
@@ -19,12 +18,11 @@ use Rattle.trim_spec.specs.Encode.{framed, entry, entries, itself, thread_bytes,
 use Rattle.trim_spec.specs.Parse.{line_record, claim_record, part, document_of}
 use Rattle.trim_spec.specs.Live.{chosen, selected, renumbered, new_numbers}
 use Rattle.trim_spec.specs.Trim.{half_by, instruction_by, line_by, claim_by, trimmed_by}
-use Rattle.trim_encode.specs.Overwritten.{overwritten}
 use Rattle.trim_encode.specs.Pieces.{joined}
 use Rattle.trim_encode.specs.Records.{renewed_body, record_bytes, record_piece, live_piece, list_bytes}
 use Rattle.trim_encode.specs.Renumbered.{renewed, renewed_instruction, renewed_line, renewed_claim}
 use Rattle.trim_encode.specs.WholeImage.{formulas_bytes, threads_bytes, outline_bytes, lines_bytes, obligations_bytes, claims_bytes}
-use Rattle.trim_encode.specs.WholeImage.{program_bytes, certificate_bytes, behind_bytes, whole_bytes}
+use Rattle.trim_encode.specs.WholeImage.{whole_bytes}
 use Rattle.trim_encode.proofs.FlatPieces.{flat_map, chosen_map, joined_part, joined_kept}
 use Rattle.trim_encode.proofs.NumberTables.{renewed_new}
 
@@ -117,9 +115,6 @@ encode_is : (D : Document) → encode D
 unfolding encode entries_of
 encode_is D = simp flat_append
 
-seven : (a b c d e f g : List ℕ) → (a ++ (b ++ c)) ++ ((d ++ (e ++ f)) ++ g) ≡ a ++ (b ++ (c ++ (d ++ (e ++ (f ++ g)))))
-seven a b c d e f g = simp append_assoc
-
 module _ (z : Sizes) (l : List (List ℕ)) (u k : List Bool) (f g : List ℕ) (ef : f ≡ new_numbers u) (eg : g ≡ new_numbers k)
     (el : length l ≡ record_count z) where
   by_f : renewed f ≡ renumbered u
@@ -169,22 +164,5 @@ module _ (z : Sizes) (l : List (List ℕ)) (u k : List Bool) (f g : List ℕ) (e
   header_so = header_are f g (renumbered u) (renumbered k) by_f by_g l
 
   pub whole_encodes : whole_bytes z f g l u k ≡ encode (trimmed_by u k (document_of z l))
-  unfolding whole_bytes program_bytes certificate_bytes behind_bytes
-  whole_encodes =
-      seven (record_bytes f g l Kinds.header 0) (formulas_bytes z f g l u) (threads_bytes z f g l) (outline_bytes z f l)
-      (lines_bytes z f g l k) (obligations_bytes z g l)
-      (claims_bytes z f g l)
-      ∙ (rw (header_so, formulas_so, threads_so, outline_so, lines_so, obligations_so, claims_so, encode_is trimmed))
-
-  -- the image is written from the buffer's start on
-  module _ (o : List ℕ) where
-    pub write_room : length (encode (trimmed_by u k (document_of z l))) ≤ length o → 0 + length (whole_bytes z f g l u k) ≤ length o
-    write_room h = rw (whole_encodes, zero-add (length (encode (trimmed_by u k (document_of z l))))) h
-
-    pub write_put : (v : List ℕ) → v ≡ overwritten o 0 (whole_bytes z f g l u k)
-        → v ≡ encode (trimmed_by u k (document_of z l)) ++ drop (length (encode (trimmed_by u k (document_of z l)))) o
-    unfolding overwritten
-    write_put v d = d ∙ (rw (whole_encodes, zero-add (length (encode (trimmed_by u k (document_of z l))))))
-
-  pub write_end : (r : ℕ) → r ≡ 0 + length (whole_bytes z f g l u k) → r ≡ length (encode (trimmed_by u k (document_of z l)))
-  write_end r d = d ∙ (rw (whole_encodes, zero-add (length (encode (trimmed_by u k (document_of z l))))))
+  unfolding whole_bytes
+  whole_encodes = rw (header_so, formulas_so, threads_so, outline_so, lines_so, obligations_so, claims_so, encode_is trimmed)

@@ -88,5 +88,3 @@ module _ (l : List (List ℕ)) (from n : ℕ) (m : List Bool) where
       let q : left_behind l from n m i ≡ 0 =
       ap (λ (x : List (List ℕ)). left_out (drop (suc i) m) (map length x)) (drop_of_length-le those b) in
       omega (arith, e, q)
-
-pub ruleset left_out_branches = (behind_start, behind_more, behind_all)

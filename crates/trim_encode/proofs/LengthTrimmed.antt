@@ -24,6 +24,7 @@ use Rattle.trim_spec.specs.Parse.{line_record, part, document_of}
 use Rattle.trim_spec.specs.Live.{chosen, selected, renumbered, kept, used}
 use Rattle.trim_spec.specs.Trim.{half_by, instruction_by, line_by, claim_by, trimmed_by, trim}
 use Rattle.trim_encode.specs.LeftOutBytes.{left_one, left_out, left_behind, Lengths}
+use Rattle.trim_encode.proofs.LeftOutBranches.{one_stays, one_left, one_short, behind_start}
 use Rattle.trim_encode.proofs.DocumentBodies.{part_at, part_length}
 
 -- THE BYTES OF RECORDS, whose bodies have such lengths
@@ -246,4 +247,14 @@ module _ (z : Sizes) (s : List ℕ) (y : Lengths z s) where
     pub trimmed_is : length s - (a + b) ≡ length (encode (trim D))
     trimmed_is = let q = all_bytes in omega arith
 
-pub ruleset trimmed_length_branches = (left_within, trimmed_is)
+pub ruleset trimmed_length_branches = (
+  one_stays,
+  one_left,
+  one_short,
+  behind_start,
+  left_within,
+  trimmed_is,
+  bytes_few,
+  room_formulas,
+  room_lines,
+)

@@ -67,8 +67,6 @@ module _ (z : Sizes) (l : List (List ℕ)) (m₀ m : List Bool) (whole : length 
       let len = threads_length z l whole in
       flat_all (λ i. flat instruction_formulas i) (document_of z l).threads t m given (omega arith) e
 
-pub ruleset live_formulas_branches = (body_more, body_all, threads_more, threads_all)
-
 pub outline_is : (z : Sizes) (l : List (List ℕ)) (b : List ℕ) (c : PointCounts) (m after : List Bool)
     → b ≡ get_or l (z.formulas + z.threads + 1) [] → c ≡ point_counts z l
     → after ≡ marked_by m (numbers c.points b) → after ≡ marked_by m (document_of z l).outline
@@ -93,8 +91,6 @@ module _ (z : Sizes) (l : List (List ℕ)) (k : List Bool) (n : ℕ) (m : List B
   pub sides_passed : b ≡ false → m ≡ marked_by m (marked_sides z l k n)
   unfolding marked_sides
   sides_passed h = rw (← e, h, noted_nil)
-
-pub ruleset mark_line_branches = (sides_noted, sides_passed)
 
 -- the lines that stay, one after the other
 
@@ -153,8 +149,6 @@ module _ (z : Sizes) (l : List (List ℕ)) (k m₀ m : List Bool) (whole : lengt
       ∙ ap (λ (x : List LineRecord). marked_by m (flat line_formulas (chosen (drop (suc n) k) x))) (drop_of_length-le (document_of z l).lines i)
       ∙ ap (λ (x : List LineRecord). marked_by m (flat line_formulas x)) (chosen_nil (drop (suc n) k)))
 
-pub ruleset mark_lines_branches = (marked_more, marked_all)
-
 pub used_is : (z : Sizes) (l : List (List ℕ)) (k m₀ m₁ m₂ m₃ : List Bool) → k ≡ kept (document_of z l)
     → m₀ ≡ replicate (suc Limits.formulas) false
     → m₁ ≡ marked_by m₀ (thread_formulas z l 0) → m₂ ≡ marked_by m₁ (document_of z l).outline → m₃ ≡ marked_by m₂ (marked_formulas z l k 0)
@@ -163,3 +157,18 @@ unfolding used named_formulas selected thread_formulas marked_formulas
 used_is z l k m₀ m₁ m₂ m₃ ek e₀ e₁ e₂ e₃ =
     note_three m₀ m₁ m₂ m₃ (thread_formulas z l 0) (document_of z l).outline (marked_formulas z l k 0) e₁ e₂ e₃
     ∙ ap₂ (λ (m x : List Bool). marked_by m (thread_formulas z l 0 ++ ((document_of z l).outline ++ marked_formulas z l x 0))) e₀ ek
+
+pub ruleset live_formulas_branches = (
+  body_more,
+  body_all,
+  threads_more,
+  threads_all,
+  outline_is,
+  sides_are,
+  sides_noted,
+  sides_passed,
+  marked_more,
+  marked_all,
+  used_is,
+  note_two,
+)

@@ -4,7 +4,7 @@ use mathlib.Core.Bool.{Bool, true, false, cond}
 use mathlib.Core.List.{List, []}
 use Prim.Native.Nat.{ℕ, zero, suc, ◌+◌, ◌-◌, ◌≤◌, ◌<◌}
 use native.Mathlib.Omega.{arith}
-use native.Mathlib.Numerals.{sub-one}
+use native.Mathlib.Numerals.{add-one, sub-one}
 use lib.ListN.{length, get_or, set, drop, replicate, length-map, get_or-map}
 use Rattle.limits.specs.Limits as Limits
 use Rattle.limits.specs.Numbers.{nth, numbers}
@@ -61,8 +61,6 @@ module _ (z : Sizes) (l : List (List ℕ)) where
         → m ≡ marked_by m₀ (claim_lines z l)
     claims_all i m₀ m h e = note_all (claim_lines z l) z.claims i m (marked_by m₀ (claim_lines z l)) h claimed_length e
 
-pub ruleset mark_claims_branches = (claims-start, claims_more, claims_all)
-
 -- one line
 module _ (z : Sizes) (l : List (List ℕ)) (n : ℕ) (m : List Bool) (b : Bool) (e : b ≡ get_or m n false) where
   pub line_noted : (c : List ℕ) (after : List Bool) → b ≡ true → c ≡ get_or l (z.formulas + z.threads + 1 + n) []
@@ -73,8 +71,6 @@ module _ (z : Sizes) (l : List (List ℕ)) (n : ℕ) (m : List Bool) (b : Bool) 
   pub line_passed : b ≡ false → m ≡ with_premises z l n m
   unfolding with_premises
   line_passed h = rw (← e, h)
-
-pub ruleset mark_line_branches = (line_noted, line_passed)
 
 -- from the last line down
 module _ (z : Sizes) (l : List (List ℕ)) where
@@ -87,17 +83,15 @@ module _ (z : Sizes) (l : List (List ℕ)) where
       let b : n < z.lines = omega arith in
       ap (λ (v : LineRecord). kept_to lines n (cond (get_or m (suc n) false) (marked_by m v.premises) m)) (line_at z l n b)
 
-  pub down_more : (n : ℕ) (g m after : List Bool) → 0 < n → n ≤ z.lines → g ≡ kept_to lines n m → after ≡ with_premises z l n m
+  pub down_more : (n : ℕ) (g m after : List Bool) → 0 < n → n ≤ z.lines → g ≡ kept_to lines n m → after ≡ with_premises z l (n - 1 + 1) m
       → g ≡ kept_to lines (n - 1) after
   down_more zero g m after h b e d = absurd (omega arith)
-  down_more (suc n) g m after h b e d = rw (sub-one (suc n), d) (e ∙ down_step n m b)
+  down_more (suc n) g m after h b e d = rw (d, sub-one (suc n), add-one n) (e ∙ down_step n m b)
 
   pub down_all : (n : ℕ) (g m : List Bool) → n ≤ 0 → g ≡ kept_to lines n m → m ≡ g
   unfolding kept_to
   down_all zero g m h e = sym e
   down_all (suc n) g m h e = absurd (omega arith)
-
-pub ruleset mark_lines_branches = (down_more, down_all)
 
 pub kept_is : (z : Sizes) (l : List (List ℕ)) (m₀ m₁ m₂ m₃ : List Bool) → length l ≡ record_count z
     → m₀ ≡ replicate (suc Limits.lines) false → m₁ ≡ marked_by m₀ (document_of z l).obligations
@@ -106,3 +100,15 @@ unfolding kept claim_lines
 kept_is z l m₀ m₁ m₂ m₃ whole e₀ e₁ e₂ e₃ =
     let named = noted_append (replicate (suc Limits.lines) false) (document_of z l).obligations (claim_lines z l) in
     rw (lines_length z l whole, named, ← e₀, ← e₁, ← e₂) e₃
+
+pub ruleset live_lines_branches = (
+  obligations_are,
+  premises_are,
+  claims-start,
+  claims_more,
+  claims_all,
+  line_noted,
+  line_passed,
+  down_all,
+  kept_is,
+)

@@ -66,7 +66,11 @@ pub numbers_more : (b : List ℕ) (n i x : ℕ) (m₀ m after : List Bool) → i
     → after ≡ set m x true → marked_by m₀ (numbers n b) ≡ marked_by after (drop (i + 1) (numbers n b))
 numbers_more b n i x m₀ m after h e d u = note_more (numbers n b) n i x m after (marked_by m₀ (numbers n b)) h (numbers_length n b) e d u
 
-pub ruleset mark_numbers_branches = (note_start, note_all, numbers_length)
+pub numbers_all : (b : List ℕ) (n i : ℕ) (m₀ m : List Bool) → n ≤ i → marked_by m₀ (numbers n b) ≡ marked_by m (drop i (numbers n b))
+    → m ≡ marked_by m₀ (numbers n b)
+numbers_all b n i m₀ m h e = note_all (numbers n b) n i m (marked_by m₀ (numbers n b)) h (numbers_length n b) e
+
+pub ruleset mark_numbers_branches = (note_start, numbers_more, numbers_all)
 
 -- a loop over a list whose members name some numbers each
 

@@ -10,7 +10,7 @@ use lib.Seq.{get_or-set_same, get_or-set_other}
 use borrow.Author.Tests.{eqb-true, eqb-false, ltb-true, ltb-false}
 use Rattle.trim_spec.specs.Live.{set_below, renumbered, numbers_to, new_numbers}
 use Rattle.trim_encode.specs.Renumbered.{renewed}
-use Rattle.trim_encode.proofs.RenumberedBranches.{new_in, new_past}
+use Rattle.trim_encode.proofs.NumberingBranches.{new_in, new_past}
 
 table_length : (m : List Bool) (n : ℕ) → length (numbers_to m n) ≡ length m
 unfolding numbers_to

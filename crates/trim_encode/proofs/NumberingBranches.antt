@@ -1,23 +1,16 @@
 -- New numbers by a running count.
-use mathlib.Core.Path.{◌≡◌, refl, ap, sym, ◌∙◌}
+use mathlib.Core.Path.{◌≡◌, refl, ap, ◌∙◌}
 use mathlib.Core.Bool.{Bool, true, false, cond}
 use mathlib.Core.List.{List, [], ◌∷◌}
-use Prim.Native.Nat.{ℕ, zero, suc, ◌+◌, ◌≤◌}
-use native.Mathlib.Nat.{add-zero}
+use Prim.Native.Nat.{ℕ, zero, suc, ◌+◌, ◌-◌, ◌≤◌, ◌<◌}
 use native.Mathlib.Numerals.{add-one}
 use native.Mathlib.Omega.{arith}
-use lib.ListN.{length, get_or, set, drop, replicate, length-set, length-replicate}
+use borrow.Author.Tests.{lt-ltb, le-ltb}
+use lib.ListN.{length, get_or, set, drop, replicate, length-replicate, get_or-eq_default}
 use lib.Seq.{get_or-drop}
+use mir.Val.{bool_byte}
 use Rattle.trim_spec.specs.Live.{set_below, renumbered, numbers_to, new_numbers}
-
-module _ (m : List Bool) (i n : ℕ) (b : Bool) (e : b ≡ get_or m i false) where
-  pub count_more : b ≡ true → n + 1 ≡ n + cond (get_or m i false) 1 0
-  count_more h = rw (← e, h)
-
-  pub count_same : b ≡ false → n ≡ n + cond (get_or m i false) 1 0
-  count_same h = rw (← e, h) (sym (add-zero n))
-
-pub ruleset count_mark_branches = (count_more, count_same)
+use Rattle.trim_encode.specs.Renumbered.{renewed}
 
 below_step : (n : ℕ) (l : List Bool) → set_below (suc n) l ≡ set_below n l + cond (get_or l n false) 1 0
 unfolding set_below
@@ -41,32 +34,59 @@ renumbered_step m i =
     (below_step i (drop 1 m)
     ∙ ap (λ (b : Bool). set_below i (drop 1 m) + cond b 1 0) (get_or-drop 1 m i false ∙ ap (λ (k : ℕ). get_or m k false) q))
 
--- the table so far, and the number that comes next
-pub record Filled (m : List Bool) (t : List ℕ) (i n : ℕ) : Type 0 where
-  pub count : n ≡ renumbered m i
-  pub table : t ≡ numbers_to m i
-  pub few : n ≤ i
-  pub long : length t ≡ length m
+-- the count and the table, one number after the other
+module _ (m : List Bool) where
+  pub count_none : 0 ≡ renumbered m 0
+  unfolding renumbered set_below
+  count_none = refl
 
-pub filled_none : (m : List Bool) (t : List ℕ) → t ≡ replicate (length m) 0 → Filled m t 0 0
-unfolding renumbered set_below numbers_to
-filled_none m t e = record { count = refl; table = e; few = omega arith; long = ap length e ∙ length-replicate {A = ℕ} (length m) 0 }
+  pub table_none : (t : List ℕ) → t ≡ replicate (length m) 0 → t ≡ numbers_to m 0
+  unfolding numbers_to
+  table_none t e = e
 
-pub filled_more : (m : List Bool) (t : List ℕ) (i n k : ℕ) → Filled m t i n → k ≡ n + cond (get_or m (i + 1) false) 1 0 → k ≤ i + 1
-    → Filled m (set t i n) (i + 1) k
-unfolding numbers_to
-filled_more m t i n k f d b = record {
-  count = d ∙ ap (λ (x : ℕ). x + cond (get_or m (i + 1) false) 1 0) f.count ∙ sym (renumbered_step m i);
-  table = rw (add-one i, ← f.table, ← f.count);
-  few = b;
-  long = length-set t i n ∙ f.long;
-}
+  module _ (i n : ℕ) (e : n ≡ renumbered m i) where
+    pub count_more : (b : Bool) → b ≡ get_or m (i + 1) false → n + bool_byte b ≡ renumbered m (i + 1)
+    count_more true h = rw (renumbered_step m i, ← h, ← e)
+    count_more false h = rw (renumbered_step m i, ← h, ← e)
 
-pub filled-all : (m : List Bool) (t : List ℕ) (i n : ℕ) → i ≤ length m → length m ≤ i → Filled m t i n → t ≡ new_numbers m
-unfolding new_numbers
-filled-all m t i n a b f = let q : i ≡ length m = omega arith in rw q at f.table
+    pub table_more : (t : List ℕ) → t ≡ numbers_to m i → set t i n ≡ numbers_to m (i + 1)
+    unfolding numbers_to
+    table_more t d = rw (add-one i, ← d, ← e)
+
+  pub table_all : (t : List ℕ) (i : ℕ) → i ≤ length m → length m ≤ i → t ≡ numbers_to m i → t ≡ new_numbers m
+  unfolding new_numbers
+  table_all t i a b f = let q : i ≡ length m = omega arith in rw q at f
+
+pub one_at_most : (b : Bool) → bool_byte b ≤ 1
+one_at_most true = omega arith
+one_at_most false = omega arith
 
 pub zeros_long : (m : List Bool) (t : List ℕ) → t ≡ replicate (length m) 0 → length t ≡ length m
 zeros_long m t e = ap length e ∙ length-replicate {A = ℕ} (length m) 0
 
-pub ruleset fill_numbers_branches = (filled_none, filled_more, filled-all, zeros_long)
+-- the new number of one number
+module _ (t : List ℕ) (n : ℕ) where
+  pub new_in : n < length t → get_or t n 0 ≡ renewed t n
+  unfolding renewed
+  new_in h = rw (lt-ltb _ _ h)
+
+  pub new_none : length t ≤ n → length t ≡ 0 → 0 ≡ renewed t n
+  unfolding renewed
+  new_none h e = let q : length t ≤ length t - 1 = omega arith in rw (le-ltb _ _ h, get_or-eq_default t 0 q)
+
+  pub new_past : length t ≤ n → get_or t (length t - 1) 0 ≡ renewed t n
+  unfolding renewed
+  new_past h = rw (le-ltb _ _ h)
+
+pub ruleset numbering_branches = (
+  count_none,
+  table_none,
+  count_more,
+  table_more,
+  table_all,
+  one_at_most,
+  zeros_long,
+  new_in,
+  new_none,
+  new_past,
+)

@@ -1,55 +1,74 @@
--- Records one behind the other: all, or those with a mark.
-use mathlib.Core.Path.{◌≡◌, sym}
+-- A record is written with its frame, and records one after the other.
+use mathlib.Core.Path.{◌≡◌}
 use mathlib.Core.Bool.{Bool, true, false}
-use mathlib.Core.List.{List, []}
-use Prim.Native.Nat.{ℕ, ◌+◌, ◌≤◌, ◌<◌}
-use native.Mathlib.Nat.{add-zero}
-use lib.ListN.{length, get_or, get_or-eq_default}
-use Rattle.trim_encode.specs.Overwritten.{overwritten}
+use mathlib.Core.List.{List, [], map}
+use Prim.Native.Nat.{ℕ, ◌+◌, ◌<◌}
+use lib.ListN.{length, get_or}
+use Rattle.limits.specs.Numbers.{numbers}
+use Rattle.trim_spec.specs.Encode.{framed, entry, number_bytes}
+use Rattle.trim_encode.specs.Writing.{Puts, Room}
+use Rattle.trim_encode.specs.declared.writer.Writer.{Writer}
 use Rattle.trim_encode.specs.Pieces.{joined}
-use Rattle.trim_encode.specs.Records.{record_bytes, record_piece, live_piece}
-use Rattle.trim_encode.proofs.Overwrites.{over_none}
-use Rattle.trim_encode.proofs.PieceLoop.{join_room}
+use Rattle.trim_encode.specs.Records.{renewed_body, record_bytes, record_piece, live_piece, list_bytes}
+use Rattle.trim_encode.specs.Renumbered.{renewed}
+use Rattle.trim_encode.proofs.Writes.{none_put, join_room, join_more}
 
-module _ (f g : List ℕ) (l : List (List ℕ)) (k n : ℕ) where
-  pub next_room : (o w : List ℕ) (p q i c : ℕ) → p + length (joined (record_piece f g l k n) c) ≤ length o
-      → w ≡ overwritten o p (joined (record_piece f g l k n) i)
-      → q ≡ p + length (joined (record_piece f g l k n) i) → i < c → q + length (record_piece f g l k n i) ≤ length w
-  next_room o w p q i c = join_room (record_piece f g l k n) o p w q i c
+-- a record with the body that was looked up
+module _ (f g : List ℕ) (l : List (List ℕ)) (k n : ℕ) (b : List ℕ) (e : b ≡ get_or l n []) where
+  record_is : record_bytes f g l k n ≡ framed (entry k (renewed_body f g k b))
+  unfolding record_bytes
+  record_is = rw e
 
-  module _ (m : List Bool) where
-    pub kept_next : (o w : List ℕ) (p q i c : ℕ) → p + length (joined (live_piece f g l m k n) c) ≤ length o
-        → w ≡ overwritten o p (joined (live_piece f g l m k n) i)
-        → q ≡ p + length (joined (live_piece f g l m k n) i) → i < c → q + length (live_piece f g l m k n i) ≤ length w
-    kept_next o w p q i c = join_room (live_piece f g l m k n) o p w q i c
+  pub record_room : (w : Writer) → Room w (length (record_bytes f g l k n)) → Room w (length (framed (entry k (renewed_body f g k b))))
+  record_room w h = rw record_is at h
 
-    module _ (o : List ℕ) (p i : ℕ) (b : Bool) (eb : b ≡ get_or m (i + 1) false) where
-      module _ (is : b ≡ true) where
-        stays : live_piece f g l m k n i ≡ record_bytes f g l k (n + i)
-        unfolding live_piece
-        stays = rw (← eb, is)
+  pub record_put : (w v : Writer) → Puts w v (framed (entry k (renewed_body f g k b))) → Puts w v (record_bytes f g l k n)
+  record_put w v p = rw record_is p
 
-        pub kept_room : p + length (live_piece f g l m k n i) ≤ length o → p + length (record_bytes f g l k (n + i)) ≤ length o
-        kept_room h = rw stays at h
+module _ (t : List ℕ) (c : ℕ) (l : List (List ℕ)) (k n : ℕ) (b : List ℕ) (e : b ≡ get_or l n []) where
+  list_is : list_bytes t l k n c ≡ framed (entry k (number_bytes (map (renewed t) (numbers c b))))
+  unfolding list_bytes
+  list_is = rw e
 
-        pub kept_put : (v : List ℕ) → v ≡ overwritten o p (record_bytes f g l k (n + i)) → v ≡ overwritten o p (live_piece f g l m k n i)
-        kept_put v d = rw stays d
+  pub list_room : (w : Writer) → Room w (length (list_bytes t l k n c))
+      → Room w (length (framed (entry k (number_bytes (map (renewed t) (numbers c b))))))
+  list_room w h = rw list_is at h
 
-        pub kept_end : (r : ℕ) → r ≡ p + length (record_bytes f g l k (n + i)) → r ≡ p + length (live_piece f g l m k n i)
-        kept_end r d = rw stays d
+  pub list_put : (w v : Writer) → Puts w v (framed (entry k (number_bytes (map (renewed t) (numbers c b))))) → Puts w v (list_bytes t l k n c)
+  list_put w v p = rw list_is p
 
-      module _ (off : b ≡ false) where
-        goes : live_piece f g l m k n i ≡ []
-        unfolding live_piece
-        goes = rw (← eb, off)
+-- records, one after the other: all, or those with a mark
+module _ (f g : List ℕ) (l : List (List ℕ)) (k n : ℕ) (w v : Writer) (i : ℕ) where
+  pub records_room : (c : ℕ) → Puts w v (joined (record_piece f g l k n) i) → i < c → Room w (length (joined (record_piece f g l k n) c))
+      → Room v (length (record_bytes f g l k (n + i)))
+  unfolding record_piece
+  records_room c = join_room (record_piece f g l k n) w v i c
 
-        pub dropped_put : o ≡ overwritten o p (live_piece f g l m k n i)
-        dropped_put = rw (goes, over_none o p)
+  pub records_more : (u : Writer) → Puts w v (joined (record_piece f g l k n) i) → Puts v u (record_bytes f g l k (n + i))
+      → Puts w u (joined (record_piece f g l k n) (i + 1))
+  unfolding record_piece
+  records_more u = join_more (record_piece f g l k n) w v u i
 
-        pub dropped_end : p ≡ p + length (live_piece f g l m k n i)
-        dropped_end = rw (goes, add-zero p)
+  module _ (m : List Bool) (b : Bool) (eb : b ≡ get_or m (i + 1) false) (p : Puts w v (joined (live_piece f g l m k n) i)) where
+    module _ (is : b ≡ true) where
+      stays : live_piece f g l m k n i ≡ record_bytes f g l k (n + i)
+      unfolding live_piece
+      stays = rw (← eb, is)
 
-pub ruleset put_if_live_branches = (kept_room, kept_put, kept_end, dropped_put, dropped_end)
+      pub live_room : (c : ℕ) → i < c → Room w (length (joined (live_piece f g l m k n) c)) → Room v (length (record_bytes f g l k (n + i)))
+      live_room c h room = rw stays at (join_room (live_piece f g l m k n) w v i c p h room)
 
-pub mark_past : (m : List Bool) (n : ℕ) → length m ≤ n → false ≡ get_or m n false
-mark_past m n h = sym (get_or-eq_default m false h)
+      pub live_more : (u : Writer) → Puts v u (record_bytes f g l k (n + i)) → Puts w u (joined (live_piece f g l m k n) (i + 1))
+      live_more u q = join_more (live_piece f g l m k n) w v u i p (rw stays q)
+
+    module _ (off : b ≡ false) where
+      goes : live_piece f g l m k n i ≡ []
+      unfolding live_piece
+      goes = rw (← eb, off)
+
+      pub live_less : Puts w v (joined (live_piece f g l m k n) (i + 1))
+      live_less = join_more (live_piece f g l m k n) w v v i p (rw goes (none_put v))
+
+pub ruleset writing_records = (records_room, records_more)
+
+pub ruleset writing_live = (live_room, live_more, live_less)

@@ -8,10 +8,10 @@ use lib.ListN.{length, drop, replicate}
 use Rattle.limits.specs.Limits as Limits
 use Rattle.image_frames.specs.Records.{bodies}
 use Rattle.image_header.specs.declared.sizes.Sizes.{Sizes}
+use Rattle.image_index.proofs.IndexBranches.{short_zeros, long_zeros}
 use Rattle.image.specs.Decode.{record_count}
+use Rattle.std.specs.Prelude.{Option, Some, None, Ok, Err}
 use Rattle.checker_spec.specs.Acceptance.{acceptance}
-use Rattle.checker_spec.specs.declared.acceptance.Acceptance.{Acceptance}
-use Rattle.checker_spec.specs.declared.acceptance.Acceptance.TheVariants.{Granted, Declined}
 use Rattle.checker_spec.proofs.AcceptedHolds.{Holds, granted_holds}
 use Rattle.trim_spec.specs.Canonical.{Bytes}
 use Rattle.trim_spec.specs.Encode.{encode}
@@ -26,8 +26,8 @@ use Rattle.trim_encode.specs.LeftOutBytes.{Lengths}
 use Rattle.trim_encode.proofs.ImageLengths.{sound_lengths}
 use Rattle.trim_encode.specs.Trimmed.{trimmed_bytes}
 use Rattle.trim_encode.specs.TrimAccepted.{Accepted}
-use Rattle.trim_encode.specs.Answer.{answer, answered_by, buffer_by, answer_for, buffer_for, answer_with, buffer_with}
-use Rattle.trim_encode.specs.declared.answer.Answer.{Answer}
+use Rattle.trim_encode.specs.Answer.{Answer, answered_by, buffer_by, answer_for, buffer_for, answer_with, buffer_with}
+use Rattle.trim_encode.specs.declared.answer.Untrimmed.TheVariants.{NotAccepted, Short}
 
 module _ (s : List ℕ) (z : Sizes) (A : Accepted s z) where
   holds : Holds s z
@@ -70,7 +70,7 @@ module _ (s : List ℕ) (z : Sizes) (u k : List Bool) (eu : u ≡ used (document
   trimmed_written o after h e = rw (le-ltb _ _ h) (e ∙ rw trimmed_is)
 
 module _ (s : List ℕ) (z : Sizes) (n : ℕ) (o : List ℕ) (e : n ≡ length (encode (trim (document_of z (bodies s))))) where
-  pub short_answer : length o < n → answer 25 0 ≡ answered_by (trimmed_bytes z s) o
+  pub short_answer : length o < n → Err Short ≡ answered_by (trimmed_bytes z s) o
   unfolding answered_by trimmed_bytes
   short_answer h = rw (← e, lt-ltb _ _ h)
 
@@ -78,7 +78,7 @@ module _ (s : List ℕ) (z : Sizes) (n : ℕ) (o : List ℕ) (e : n ≡ length (
   unfolding buffer_by trimmed_bytes
   short_buffer h = rw (← e, lt-ltb _ _ h)
 
-  pub done_answer : n ≤ length o → answer 0 n ≡ answered_by (trimmed_bytes z s) o
+  pub done_answer : n ≤ length o → Ok n ≡ answered_by (trimmed_bytes z s) o
   unfolding answered_by trimmed_bytes
   done_answer h = rw (← e, le-ltb _ _ h)
 
@@ -98,24 +98,24 @@ pub ruleset trim_accepted_branches = (
   done_answer,
 )
 
-pub accepted_of : (s : List ℕ) (a : Acceptance) (z : Sizes) → Bytes s → a ≡ acceptance s → a ≡ Granted z → Accepted s z
+pub accepted_of : (s : List ℕ) (a : Option Sizes) (z : Sizes) → Bytes s → a ≡ acceptance s → a ≡ Some z → Accepted s z
 accepted_of s a z b e h = record { bytes = b; granted = sym e ∙ h }
 
-module _ (s o : List ℕ) (a : Acceptance) (e : a ≡ acceptance s) where
-  pub granted_answer : (z : Sizes) (r : Answer) → a ≡ Granted z → r ≡ answered_by (trimmed_bytes z s) o → r ≡ answer_for s o
+module _ (s o : List ℕ) (a : Option Sizes) (e : a ≡ acceptance s) where
+  pub granted_answer : (z : Sizes) (r : Answer) → a ≡ Some z → r ≡ answered_by (trimmed_bytes z s) o → r ≡ answer_for s o
   unfolding answer_for
   granted_answer z r h q = q ∙ ap (answer_with s o) (sym h ∙ e)
 
-  pub granted_buffer : (z : Sizes) (after : List ℕ) → a ≡ Granted z → after ≡ buffer_by (trimmed_bytes z s) o → after ≡ buffer_for s o
+  pub granted_buffer : (z : Sizes) (after : List ℕ) → a ≡ Some z → after ≡ buffer_by (trimmed_bytes z s) o → after ≡ buffer_for s o
   unfolding buffer_for
   granted_buffer z after h q = q ∙ ap (buffer_with s o) (sym h ∙ e)
 
-  pub declined_answer : a ≡ Declined → answer 24 0 ≡ answer_for s o
+  pub declined_answer : a ≡ None → Err NotAccepted ≡ answer_for s o
   unfolding answer_for
   declined_answer h = ap (answer_with s o) (sym h ∙ e)
 
-  pub declined_buffer : a ≡ Declined → o ≡ buffer_for s o
+  pub declined_buffer : a ≡ None → o ≡ buffer_for s o
   unfolding buffer_for
   declined_buffer h = ap (buffer_with s o) (sym h ∙ e)
 
-pub ruleset trim_by_branches = (granted_answer, granted_buffer, declined_answer, declined_buffer)
+pub ruleset trim_by_branches = (granted_answer, granted_buffer, declined_answer, declined_buffer, short_zeros, long_zeros)

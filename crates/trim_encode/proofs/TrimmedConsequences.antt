@@ -11,8 +11,8 @@ use Rattle.image_frames.specs.Records.{bodies}
 use Rattle.image_header.specs.declared.sizes.Sizes.{Sizes}
 use Rattle.image_meaning.specs.Image.{read, decode}
 use Rattle.checker_spec.specs.ImageVerdict.{verdict}
+use Rattle.std.specs.Prelude.{Some}
 use Rattle.checker_spec.specs.Acceptance.{acceptance}
-use Rattle.checker_spec.specs.declared.acceptance.Acceptance.TheVariants.{Granted}
 use Rattle.trim_spec.specs.Document.{Document}
 use Rattle.trim_spec.specs.Encode.{encode}
 use Rattle.trim_spec.specs.Parse.{document_of}
@@ -75,7 +75,7 @@ module _ (image trimmed : List ℕ) (p : Trimmed image trimmed) where
   pub no_longer : length trimmed ≤ length image
   no_longer = p.no_longer
 
-  module _ (z : Sizes) (granted : acceptance trimmed ≡ Granted z) where
+  module _ (z : Sizes) (granted : acceptance trimmed ≡ Some z) where
     -- "trimming it again gives the same bytes"
     pub again_same : trimmed_bytes z trimmed ≡ trimmed
     again_same = p.again z granted

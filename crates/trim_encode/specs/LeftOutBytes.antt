@@ -1,5 +1,5 @@
 -- The bytes of the records that are left out: those whose numbers have no mark.
-use Rattle.std.specs.Prelude.{◌≡◌, Bool, false, cond, List, [], ◌∷◌, map, ℕ, suc, ◌+◌, ◌*◌, ◌≤◌, length, get_or, drop}
+use Rattle.std.specs.Prelude.{◌≡◌, Bool, false, cond, List, [], ◌∷◌, map, ℕ, suc, ◌+◌, ◌*◌, ◌≤◌, ◌<◌, length, get_or, drop}
 use Rattle.limits.specs.Limits as Limits
 use Rattle.image_frames.specs.Records.{bodies}
 use Rattle.image_header.specs.declared.sizes.Sizes.{Sizes}
@@ -33,3 +33,10 @@ pub record Lengths (z : Sizes) (s : List ℕ) : Type 0 where
   -- a line's body is as long as its premise count says
   pub lines : (n : ℕ) → 1 ≤ n → n ≤ z.lines → length (line_body z (bodies s) n) ≡ line_size (line_body z (bodies s) n)
   pub document : length (encode (document_of z (bodies s))) ≡ length s
+
+-- the counts of sizes z within their types
+pub record InRange (z : Sizes) : Type 0 where
+  pub formulas : z.formulas < 65536
+  pub threads : z.threads < 256
+  pub lines : z.lines < 65536
+  pub claims : z.claims < 65536

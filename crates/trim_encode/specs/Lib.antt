@@ -1,11 +1,12 @@
 pub mod NamedNumbers
 pub mod LeftOutBytes
-pub mod Overwritten
+pub mod Said
+pub mod Writing
 pub mod Pieces
 pub mod Renumbered
-pub mod RecordParts
 pub mod Records
 pub mod WholeImage
+pub mod Outcome
 pub mod Trimmed
 pub mod TrimAccepted
 pub mod Answer

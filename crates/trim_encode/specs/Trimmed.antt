@@ -1,5 +1,5 @@
 -- What trimming promises of an accepted image and its trimmed image.
-use Rattle.std.specs.Prelude.{◌≡◌, List, ℕ, ◌≤◌, ◌<◌, length}
+use Rattle.std.specs.Prelude.{◌≡◌, List, ℕ, ◌≤◌, ◌<◌, length, Some}
 use Rattle.semantics.specs.Base.{Within}
 use Rattle.semantics.specs.Machine.{Program}
 use Rattle.image_frames.specs.Records.{bodies}
@@ -8,7 +8,6 @@ use Rattle.logic_outline.specs.Verdict.{Image}
 use Rattle.image_meaning.specs.Image.{read, decode}
 use Rattle.checker_spec.specs.ImageVerdict.{verdict}
 use Rattle.checker_spec.specs.Acceptance.{acceptance}
-use Rattle.checker_spec.specs.declared.acceptance.Acceptance.TheVariants.{Granted}
 use Rattle.trim_spec.specs.Document.{Document}
 use Rattle.trim_spec.specs.Encode.{encode}
 use Rattle.trim_spec.specs.Parse.{document_of}
@@ -46,11 +45,11 @@ pub record Trimmed (image trimmed : List ℕ) : Type 0 where
   -- "It is accepted with the same count"
   pub accepted : verdict trimmed ≡ verdict image
   -- "trimming it again gives the same bytes"
-  pub again : (z : Sizes) → acceptance trimmed ≡ Granted z → trimmed_bytes z trimmed ≡ trimmed
+  pub again : (z : Sizes) → acceptance trimmed ≡ Some z → trimmed_bytes z trimmed ≡ trimmed
   -- "only the lines on which some obligation rests, and only the formulas that are still used"; claims count as obligations do (Change 5)
   pub document : Document
   -- the document is what the records of the trimmed image say, and its records are the trimmed image
-  pub parsed : (z : Sizes) → acceptance trimmed ≡ Granted z → document ≡ document_of z (bodies trimmed)
+  pub parsed : (z : Sizes) → acceptance trimmed ≡ Some z → document ≡ document_of z (bodies trimmed)
   pub bytes : encode document ≡ trimmed
   pub rests : (n : ℕ) → 1 ≤ n → n ≤ length document.lines → Rests document n
   pub uses : (n : ℕ) → 1 ≤ n → n ≤ length document.formulas → Uses document n

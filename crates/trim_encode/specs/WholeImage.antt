@@ -32,18 +32,8 @@ module _ (z : Sizes) (f g : List ℕ) (l : List (List ℕ)) where
   unfoldable pub claims_bytes : List ℕ
   claims_bytes = joined (record_piece f g l Kinds.claim (z.formulas + z.threads + 1 + z.lines + 2)) z.claims
 
-  -- header, formulas and threads
-  unfoldable pub program_bytes : List Bool → List ℕ
-  program_bytes u = record_bytes f g l Kinds.header 0 ++ (formulas_bytes u ++ threads_bytes)
-
-  -- outline, lines and obligations
-  unfoldable pub certificate_bytes : List Bool → List ℕ
-  certificate_bytes k = outline_bytes z f l ++ (lines_bytes k ++ obligations_bytes z g l)
-
-  -- everything behind the threads
-  unfoldable pub behind_bytes : List Bool → List ℕ
-  behind_bytes k = certificate_bytes k ++ claims_bytes
-
   -- the whole image
   unfoldable pub whole_bytes : List Bool → List Bool → List ℕ
-  whole_bytes u k = program_bytes u ++ behind_bytes k
+  whole_bytes u k =
+      record_bytes f g l Kinds.header 0
+      ++ (formulas_bytes u ++ (threads_bytes ++ (outline_bytes z f l ++ (lines_bytes k ++ (obligations_bytes z g l ++ claims_bytes)))))

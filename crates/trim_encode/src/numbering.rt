@@ -1,30 +1,44 @@
 // Renumbering: what is marked gets the numbers from 1 on, in its old order.
-ghost use Rattle.std.specs.Prelude.{◌≡◌, false, cond, ◌+◌, ◌≤◌, ◌<◌, length, get_or, replicate};
+#![tactic(auto, using(crate::proofs::NumberingBranches::numbering_branches, limits::proofs::BranchTests::tests))]
+
+ghost use Rattle.std.specs.Prelude.{◌≡◌, length, replicate};
 ghost use Rattle.trim_spec.specs.Live.{new_numbers};
+ghost use Rattle.trim_encode.specs.Renumbered.{renewed};
 
 use crate::marks::is_marked;
 
-// The running count `n`, one more if `i` is marked.
-fn count_mark(marks: &[bool], i: usize, n: usize) -> usize
-    requires { (i ≤ length marks.now) × (n < i) }
-    ensures { (result ≡ n + cond (get_or marks.now i false) 1 0) × (result ≤ i) }
-{
-    if is_marked(marks, i) {
-        return n + 1;
+// The marks of what stays, and the table of the new numbers that they give.
+#[derive(Clone, Copy)]
+pub struct Renumbering<'a> {
+    pub live: &'a [bool],
+    pub numbers: &'a [usize],
+    ghost numbered: { numbers.now ≡ new_numbers live.now },
+}
+
+impl<'a> Renumbering<'a> {
+    // The new number of `number`. A number past the table gets its last entry, so that no caller has to show that it is in the table.
+    pub fn new_number(&self, number: usize) -> usize
+        ensures { result ≡ renewed self.now.numbers.now number }
+    {
+        let numbers = self.numbers;
+        if number < numbers.len() {
+            numbers[number]
+        } else if numbers.len() == 0 {
+            0
+        } else {
+            numbers[numbers.len() - 1]
+        }
     }
-    n
 }
 
 // Fills `table`, all zeros before, with the new number of each old one, in one pass with a running count.
-pub fn fill_numbers<'a, 'b>(marks: &'a [bool], table: &'b mut [usize])
+pub fn fill_numbers(marks: &[bool], table: &mut [usize])
     requires { table.old ≡ replicate (length marks.now) 0 }
     ensures { table.new ≡ new_numbers marks.now }
 {
     let mut n: usize = 0;
-    let mut i: usize = 0;
-    while i < marks.len() {
+    for i in 0..marks.len() {
         table[i] = n;
-        i += 1;
-        n = count_mark(marks, i, n);
+        n += usize::from(is_marked(marks, i + 1));
     }
 }

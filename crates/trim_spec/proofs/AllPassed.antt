@@ -8,7 +8,6 @@ use lib.Dec.{ltb}
 use lib.ListN.{get_or, drop}
 use lib.Seq.{get_or-drop}
 use borrow.Author.Tests.{ltb-true, ltb-false}
-use Rattle.image_frames.specs.declared.fault.Checked.TheVariants.{Passed}
 use Rattle.image_header.specs.declared.sizes.Sizes.{Sizes}
 use Rattle.image_header.specs.Header.{header}
 use Rattle.image_bodies.specs.RecordPlaces.{thread_body}
@@ -19,11 +18,12 @@ use Rattle.image_bodies.specs.ListBody as Lists
 use Rattle.image_bodies.specs.LineBody as Lines
 use Rattle.image.specs.Body.{place_of, check}
 use Rattle.image.specs.Decode.{record_count, first_fault}
-use Rattle.image.specs.declared.decode.Decoded.TheVariants.{Sound}
 use Rattle.image_meaning.specs.Program.{outline_body}
 use Rattle.image_meaning.specs.Certificate.{line_body}
 use Rattle.image_meaning.specs.Image.{obligations_body, claim_body}
 use Rattle.image_meaning.proofs.RecordsChecked.{place_formula, place_thread, place_outline, place_line, place_obligations, place_claim}
+use Rattle.image_frames.specs.Fault.{passed}
+use Rattle.std.specs.Prelude.{Ok}
 
 -- before it, or not
 by_order : {P : Type 0} (i m : ℕ) → (i < m → P) → (m ≤ i → P) → P
@@ -37,17 +37,17 @@ by_order {P} i m g h = go (ltb i m) refl
 module _ (t : ℕ) (z : Sizes) (l : List (List ℕ)) where
   -- record i + 1
   abbrev pub PassedAt : ℕ → Type 0
-  PassedAt i = check t z l (place_of z (i + 1)) (get_or l i []) ≡ Passed
+  PassedAt i = check t z l (place_of z (i + 1)) (get_or l i []) ≡ passed
 
   -- by kinds
   pub record AllPassed : Type 0 where
-    pub head : header t (get_or l 0 []) ≡ Passed
-    pub formula : (k : ℕ) → 1 ≤ k → k ≤ z.formulas → Formulas.formula z (get_or l k []) ≡ Passed
-    pub thread : (n : ℕ) → 1 ≤ n → n ≤ z.threads → Threads.thread z l n (thread_body z l n) ≡ Passed
-    pub outline : Lists.outline z l (outline_body z l) ≡ Passed
-    pub line : (n : ℕ) → 1 ≤ n → n ≤ z.lines → Lines.line z l (n - 1) (line_body z l n) ≡ Passed
-    pub obligations : Lists.obligations z l (obligations_body z l) ≡ Passed
-    pub claim : (n : ℕ) → n < z.claims → Claims.claim z l (claim_body z l n) ≡ Passed
+    pub head : header t (get_or l 0 []) ≡ passed
+    pub formula : (k : ℕ) → 1 ≤ k → k ≤ z.formulas → Formulas.formula z (get_or l k []) ≡ passed
+    pub thread : (n : ℕ) → 1 ≤ n → n ≤ z.threads → Threads.thread z l n (thread_body z l n) ≡ passed
+    pub outline : Lists.outline z l (outline_body z l) ≡ passed
+    pub line : (n : ℕ) → 1 ≤ n → n ≤ z.lines → Lines.line z l (n - 1) (line_body z l n) ≡ passed
+    pub obligations : Lists.obligations z l (obligations_body z l) ≡ passed
+    pub claim : (n : ℕ) → n < z.claims → Claims.claim z l (claim_body z l n) ≡ passed
 
   -- the bodies of the last thread and of the last line
   abbrev threads : ℕ
@@ -112,8 +112,8 @@ module _ (t : ℕ) (z : Sizes) (l : List (List ℕ)) where
         at_claim i (omega arith) b))))))
 
   -- no record has a fault, so the image has none
-  none_from : (i n : ℕ) (m : List (List ℕ)) → ((j : ℕ) → j < n → check t z l (place_of z (i + j)) (get_or m j []) ≡ Passed)
-      → first_fault t z l i n m ≡ Sound z
+  none_from : (i n : ℕ) (m : List (List ℕ)) → ((j : ℕ) → j < n → check t z l (place_of z (i + j)) (get_or m j []) ≡ passed)
+      → first_fault t z l i n m ≡ Ok z
   unfolding first_fault
   none_from i zero m h = refl
   none_from i (suc n) m h =
@@ -124,5 +124,5 @@ module _ (t : ℕ) (z : Sizes) (l : List (List ℕ)) where
       let d : 1 + j ≡ suc j = omega arith in
       rw (get_or-drop 1 m j [], d, ← s) (h (suc j) (omega arith))))
 
-  pub fault_none : ((i : ℕ) → i < record_count z → PassedAt i) → first_fault t z l 1 (record_count z) l ≡ Sound z
+  pub fault_none : ((i : ℕ) → i < record_count z → PassedAt i) → first_fault t z l 1 (record_count z) l ≡ Ok z
   fault_none h = none_from 1 (record_count z) l (λ j b. let q : 1 + j ≡ j + 1 = omega arith in rw q (h j b))

@@ -5,12 +5,10 @@ use mathlib.Core.List.{List, []}
 use Prim.Native.Nat.{ℕ, ◌≤◌}
 use native.Mathlib.Omega.{arith}
 use lib.ListN.{length, get_or}
-use Rattle.image_frames.specs.declared.fault.Checked.TheVariants.{Passed}
 use Rattle.image_frames.proofs.KindCounts.{Counts}
 use Rattle.image_header.specs.Header.{thread_count, header}
 use Rattle.image_bodies.specs.FormulaBody.{counts_of, formula}
 use Rattle.image.specs.Decode.{sizes_of, record_count, first_fault}
-use Rattle.image.specs.declared.decode.Decoded.TheVariants.{Sound}
 use Rattle.image_meaning.proofs.RecordsChecked.{Checks, header_passed, formula_passed}
 use Rattle.trim_spec.specs.Document.{Document}
 use Rattle.trim_spec.specs.Encode.{bodies_of}
@@ -27,6 +25,8 @@ use Rattle.trim_spec.proofs.LineKept.{line_kept}
 use Rattle.trim_spec.proofs.DocumentInverse.{header_counts}
 use Rattle.trim_spec.proofs.ClaimKept.{claim_kept}
 use Rattle.trim_spec.proofs.AllPassed.{AllPassed, all_passed, fault_none}
+use Rattle.image_frames.specs.Fault.{passed}
+use Rattle.std.specs.Prelude.{Ok}
 
 module _ {u k : List Bool} {D : Document} (T : Trimming u k D) where
   abbrev E : Document
@@ -50,11 +50,11 @@ module _ {u k : List Bool} {D : Document} (T : Trimming u k D) where
   unfolding sizes sizes_of
   sizes_kept = rw (header_at E (threads_kept T))
 
-  head_kept : header counted (get_or (bodies_of E) 0 []) ≡ Passed
+  head_kept : header counted (get_or (bodies_of E) 0 []) ≡ passed
   head_kept = rw (header_kept T) (header_passed (sizes D) (bodies_of D) T.checks)
 
   -- a formula's check goes by the header's counts alone
-  formula_checked : (n : ℕ) → 1 ≤ n → n ≤ length E.formulas → formula (sizes E) (get_or (bodies_of E) n []) ≡ Passed
+  formula_checked : (n : ℕ) → 1 ≤ n → n ≤ length E.formulas → formula (sizes E) (get_or (bodies_of E) n []) ≡ passed
   unfolding formula counts_of sizes sizes_of
   formula_checked n a b =
       let s = selected_from u D.formulas n a b in
@@ -77,7 +77,7 @@ module _ {u k : List Bool} {D : Document} (T : Trimming u k D) where
   checks_kept = record { counted = counted; few = few_kept; sizes = sizes_kept; passed = all_passed counted (sizes E) (bodies_of E) checked }
 
   -- all its threads were counted, and no record has a fault
-  pub trimmed_sound : first_fault (length E.threads) (sizes E) (bodies_of E) 1 (record_count (sizes E)) (bodies_of E) ≡ Sound (sizes E)
+  pub trimmed_sound : first_fault (length E.threads) (sizes E) (bodies_of E) 1 (record_count (sizes E)) (bodies_of E) ≡ Ok (sizes E)
   trimmed_sound =
       let b : List ℕ = get_or (bodies_of E) 0 [] in
       let e = header_counts counted b head_kept in

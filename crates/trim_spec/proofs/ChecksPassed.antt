@@ -8,10 +8,8 @@ use lib.ListN.{length, get_or}
 use borrow.Author.Tests.{le-leb}
 use Rattle.limits.specs.Numbers.{within, every}
 use Rattle.limits.proofs.PassedTests.{and_true}
-use Rattle.image_frames.specs.Fault.{unless, also}
+use Rattle.image_frames.specs.Fault.{unless, also, Checked, passed}
 use Rattle.image_frames.specs.declared.fault.Fault.{Fault}
-use Rattle.image_frames.specs.declared.fault.Checked.{Checked}
-use Rattle.image_frames.specs.declared.fault.Checked.TheVariants.{Passed}
 
 pub and_in : (a b : Bool) → a ≡ true → b ≡ true → a && b ≡ true
 and_in a b e d = rw (e, d)
@@ -24,11 +22,11 @@ pub within_in : (lo hi x : ℕ) → lo ≤ x → x ≤ hi → within lo hi x ≡
 unfolding within
 within_in lo hi x a b = rw (le-leb lo x a, le-leb x hi b)
 
-pub unless_in : (b : Bool) (f : Fault) (c : Checked) → b ≡ true → c ≡ Passed → unless b f c ≡ Passed
+pub unless_in : (b : Bool) (f : Fault) (c : Checked) → b ≡ true → c ≡ passed → unless b f c ≡ passed
 unfolding unless
 unless_in b f c e d = rw (e, d)
 
-pub also_in : (c d : Checked) → c ≡ Passed → d ≡ Passed → also c d ≡ Passed
+pub also_in : (c d : Checked) → c ≡ passed → d ≡ passed → also c d ≡ passed
 unfolding also
 also_in c d e h = rw (e, h)
 

@@ -8,7 +8,6 @@ use lib.ListN.{length, get_or, drop}
 use borrow.Author.Tests.{eq-eqb}
 use Rattle.limits.specs.Numbers.{le16, within}
 use Rattle.limits.proofs.PassedTests.{and_true, within_true}
-use Rattle.image_frames.specs.declared.fault.Checked.TheVariants.{Passed}
 use Rattle.image_header.specs.Thread.{last_point}
 use Rattle.image_bodies.specs.RecordPlaces.{thread_body}
 use Rattle.image_bodies.specs.Claim.{point_there, different, claimed, claim}
@@ -29,6 +28,7 @@ use Rattle.trim_spec.proofs.CanonicalKept.{claim_fits}
 use Rattle.trim_spec.proofs.ChecksPassed.{and_in, within_in, unless_in}
 use Rattle.trim_spec.proofs.TrimPremises.{Trimming, threads_kept}
 use Rattle.trim_spec.proofs.ThreadKept.{last_kept}
+use Rattle.image_frames.specs.Fault.{passed}
 
 module _ {u k : List Bool} {D : Document} (T : Trimming u k D) where
   abbrev E : Document
@@ -98,6 +98,6 @@ module _ {u k : List Bool} {D : Document} (T : Trimming u k D) where
     new_body : claim_body (sizes E) (bodies_of E) i ≡ claim_bytes c'
     new_body = Places.claim-at E (threads_kept T) i (omega (arith, claims_length u k D)) ∙ ap claim_bytes (claim-at u k D i)
 
-    pub claim_kept : claim (sizes E) (bodies_of E) (claim_body (sizes E) (bodies_of E) i) ≡ Passed
+    pub claim_kept : claim (sizes E) (bodies_of E) (claim_body (sizes E) (bodies_of E) i) ≡ passed
     unfolding claim
     claim_kept = rw new_body (unless_in _ _ _ (eq-eqb _ _ (claim_size c')) (unless_in _ _ _ found_kept refl))

@@ -6,15 +6,12 @@ use Prim.Native.Nat.{ℕ, ◌+◌, ◌≤◌, ◌<◌}
 use native.Mathlib.Omega.{arith}
 use lib.ListN.{length, get_or, length-map}
 use Rattle.limits.specs.Limits as Limits
-use Rattle.image_frames.specs.Frames.{whole_image}
+use Rattle.image_frames.specs.Frames.{whole_image, Framing, sound}
 use Rattle.image_frames.specs.Records.{bodies}
-use Rattle.image_frames.specs.declared.walk.Framing.{Framing}
 use Rattle.image_header.specs.Header.{thread_count, headed, header}
 use Rattle.image_header.specs.declared.sizes.Sizes.{Sizes}
 use Rattle.image.specs.Decode.{record_count, sizes_of, first_fault, behind_frames, decoded}
-use Rattle.image.specs.declared.decode.Decoded.TheVariants.{Sound}
 use Rattle.image.specs.Body.{place_of, check}
-use Rattle.image_frames.specs.declared.fault.Checked.TheVariants.{Passed}
 use Rattle.limits.specs.Numbers.{within}
 use Rattle.limits.proofs.PassedTests.{and_true, within_true}
 use Rattle.image_header.specs.Header as Header
@@ -31,6 +28,8 @@ use Rattle.trim_spec.proofs.FramesOfKinds.{framed_image}
 use Rattle.trim_spec.proofs.RecordKinds.{entries_kinds, encode_entered}
 use Rattle.trim_spec.proofs.EncodedBodies.{Describes, encoded}
 use Rattle.trim_spec.proofs.BodyPlaces.{header_at, bodies_length}
+use Rattle.image_frames.specs.Fault.{passed}
+use Rattle.std.specs.Prelude.{Ok, Err}
 
 bodies_entries : (D : Document) → length (bodies_of D) ≡ length (entries_of D)
 unfolding bodies_of
@@ -41,13 +40,13 @@ unfolding record_count
 some_records z = omega arith
 
 -- the first record is the header
-head_first : (t : ℕ) (z : Sizes) (l : List (List ℕ)) → check t z l (place_of z (1 + 0)) (get_or l 0 []) ≡ Passed
-    → header t (get_or l 0 []) ≡ Passed
+head_first : (t : ℕ) (z : Sizes) (l : List (List ℕ)) → check t z l (place_of z (1 + 0)) (get_or l 0 []) ≡ passed
+    → header t (get_or l 0 []) ≡ passed
 unfolding check place_of
 head_first t z l e = e
 
 -- the header says how many threads there are
-pub header_counts : (t : ℕ) (b : List ℕ) → header t b ≡ Passed → t ≡ thread_count b
+pub header_counts : (t : ℕ) (b : List ℕ) → header t b ≡ passed → t ≡ thread_count b
 unfolding header headed Header.counted
 header_counts t b e =
     let h = (unless_passed _ _ _ (unless_passed _ _ _ (unless_passed _ _ _ e).1).1).0 in
@@ -55,22 +54,23 @@ header_counts t b e =
     omega (arith, w.0, w.1)
 
 -- the frames of a sound image
-sound_frames : (s : List ℕ) (z : Sizes) → decoded s ≡ Sound z
-    → whole_image s ≡ Framing.Sound z.formulas z.threads z.lines z.claims
+sound_frames : (s : List ℕ) (z : Sizes) → decoded s ≡ Ok z
+    → whole_image s ≡ sound z.formulas z.threads z.lines z.claims
 unfolding decoded sizes_of
 sound_frames s z e = go (whole_image s) refl e
   where
-    go : (g : Framing) → whole_image s ≡ g → behind_frames (bodies s) g ≡ Sound z
-        → whole_image s ≡ Framing.Sound z.formulas z.threads z.lines z.claims
-    go (Framing.Refused f r) w d = absurd (refused_sound f r z d)
-    go (Framing.Sound f t n m) w d =
+    go : (g : Framing) → whole_image s ≡ g → behind_frames (bodies s) g ≡ Ok z
+        → whole_image s ≡ sound z.formulas z.threads z.lines z.claims
+    go (Err r) w d = absurd (refused_sound r z d)
+    go (Ok n) w d =
+        let t : ℕ = n.threads in
         let h : List ℕ = get_or (bodies s) 0 [] in
-        let y : Sizes = sizes_of h f n m in
+        let y : Sizes = sizes_of h n.formulas n.lines n.claims in
         let q : y ≡ z = fault_sizes t y (bodies s) z 1 (record_count y) (bodies s) d in
-        let p : header t h ≡ Passed = head_first t y (bodies s)
+        let p : header t h ≡ passed = head_first t y (bodies s)
         (fault_passed t y (bodies s) z 1 (record_count y) 0 (bodies s) (some_records y) d) in
         let r : t ≡ thread_count h = header_counts t h p in
-        w ∙ ap (λ (x : ℕ). Framing.Sound f x n m) r ∙ ap (λ (x : Sizes). Framing.Sound x.formulas x.threads x.lines x.claims) q
+        w ∙ ap (λ (x : ℕ). sound n.formulas x n.lines n.claims) r ∙ ap (λ (x : Sizes). sound x.formulas x.threads x.lines x.claims) q
 
 -- a sound image and its document
 pub record Documented (s : List ℕ) (z : Sizes) : Type 0 where
@@ -81,7 +81,7 @@ pub record Documented (s : List ℕ) (z : Sizes) : Type 0 where
   pub few : length s ≤ Limits.image_bytes
   pub numbered : Numbered z.formulas z.threads z.lines z.claims
 
-pub documented : (s : List ℕ) (z : Sizes) → Bytes s → decoded s ≡ Sound z → Documented s z
+pub documented : (s : List ℕ) (z : Sizes) → Bytes s → decoded s ≡ Ok z → Documented s z
 unfolding sizes sizes_of record_count
 documented s z b e =
     let f = framed_image s z.formulas z.threads z.lines z.claims b (sound_frames s z e) in
@@ -104,7 +104,7 @@ module _ (D : Document) (same : thread_count D.header ≡ length D.threads) wher
     pub numbered : Numbered (length D.formulas) (length D.threads) (length D.lines) (length D.claims)
     pub framable : Each Framable [] (bodies_of D)
     pub few : length (encode D) ≤ Limits.image_bytes
-    pub sound : first_fault (length D.threads) (sizes D) (bodies_of D) 1 (record_count (sizes D)) (bodies_of D) ≡ Sound (sizes D)
+    pub sound : first_fault (length D.threads) (sizes D) (bodies_of D) 1 (record_count (sizes D)) (bodies_of D) ≡ Ok (sizes D)
 
   module _ (K : Encodable) where
     entries_few : length (entries_of D) ≤ Limits.records
@@ -119,7 +119,7 @@ module _ (D : Document) (same : thread_count D.header ≡ length D.threads) wher
     unfolding encode bodies_of
     bodies_encode = bodies_framed (entries_of D) entries_few K.framable
 
-    whole_encode : whole_image (encode D) ≡ Framing.Sound (length D.formulas) (length D.threads) (length D.lines)
+    whole_encode : whole_image (encode D) ≡ sound (length D.formulas) (length D.threads) (length D.lines)
         (length D.claims)
     unfolding encode bodies_of
     whole_encode =
@@ -127,6 +127,6 @@ module _ (D : Document) (same : thread_count D.header ≡ length D.threads) wher
         frames_framed (entries_of D) (length D.formulas) (length D.threads) (length D.lines) (length D.claims) (entries_kinds D)
         n.formula n.formulas n.thread n.threads n.line n.lines n.claims K.framable K.few
 
-    pub decoded_encode : decoded (encode D) ≡ Sound (sizes D)
+    pub decoded_encode : decoded (encode D) ≡ Ok (sizes D)
     unfolding decoded sizes
     decoded_encode = rw (whole_encode, bodies_encode, header_at D same) K.sound

@@ -10,7 +10,6 @@ use Rattle.limits.specs.Numbers.{numbers}
 use Rattle.limits.proofs.Numbers.{numbers_length}
 use Rattle.limits.proofs.PassedTests.{and_true, within_true}
 use Rattle.image_frames.specs.Records.{bodies}
-use Rattle.image_frames.specs.declared.fault.Checked.TheVariants.{Passed}
 use Rattle.image_header.specs.declared.sizes.Sizes.{Sizes}
 use Rattle.image_header.specs.Header.{thread_count}
 use Rattle.image_header.specs.Thread.{instructions, thread_size, numbered, thread_numbers}
@@ -23,7 +22,6 @@ use Rattle.image_bodies.specs.ThreadBody.{thread}
 use Rattle.image_bodies.specs.ListBody.{outline, obligations}
 use Rattle.image_bodies.specs.LineBody.{line}
 use Rattle.image.specs.Decode.{record_count, sizes_of, decoded}
-use Rattle.image.specs.declared.decode.Decoded.TheVariants.{Sound}
 use Rattle.image_meaning.specs.Program.{outline_body}
 use Rattle.image_meaning.specs.Certificate.{line_body}
 use Rattle.image_meaning.specs.Image.{obligations_body, claim_body}
@@ -40,10 +38,12 @@ use Rattle.trim_spec.proofs.LineBytes.{line-fits, line_again}
 use Rattle.trim_spec.proofs.ClaimBytes.{claim_fits, claim_again}
 use Rattle.trim_spec.proofs.ListParts.{part_more, member_more, part_length, part_last}
 use Rattle.trim_spec.proofs.BodyPlaces.{threads_start, outline_start, lines_start, obligations_start, claims_start, bodies_are}
+use Rattle.image_frames.specs.Fault.{passed}
+use Rattle.std.specs.Prelude.{Ok}
 
 -- a record that passes its check has the bytes of what it says
 
-pub thread_read : (z : Sizes) (b : List ℕ) → Bytes b → thread_numbers z b ≡ Passed → thread_bytes (instructions b) ≡ b
+pub thread_read : (z : Sizes) (b : List ℕ) → Bytes b → thread_numbers z b ≡ passed → thread_bytes (instructions b) ≡ b
 unfolding thread_numbers numbered
 thread_read z b h e =
     let p = unless_passed _ _ _ e in
@@ -51,18 +51,18 @@ thread_read z b h e =
     let r = (and_true _ _ (unless_passed _ _ _ q.1).0).0 in
     thread_again b h (within_true 1 Limits.points (get_or b 0 0) r).0 p.0 (eqb-true (length b) (thread_size b) q.0)
 
-pub line_read : (z : Sizes) (l : List (List ℕ)) (lower : ℕ) (b : List ℕ) → Bytes b → line_numbers z l lower b ≡ Passed
+pub line_read : (z : Sizes) (l : List (List ℕ)) (lower : ℕ) (b : List ℕ) → Bytes b → line_numbers z l lower b ≡ passed
     → line_bytes (line_record b) ≡ b
 unfolding line_numbers
 line_read z l lower b h e =
     let p = unless_passed _ _ _ e in
     line_again b h p.0 (eqb-true (length b) (line_size b) (unless_passed _ _ _ p.1).0)
 
-pub claim_read : (z : Sizes) (l : List (List ℕ)) (b : List ℕ) → Bytes b → claim z l b ≡ Passed → claim_bytes (claim_record b) ≡ b
+pub claim_read : (z : Sizes) (l : List (List ℕ)) (b : List ℕ) → Bytes b → claim z l b ≡ passed → claim_bytes (claim_record b) ≡ b
 unfolding claim
 claim_read z l b h e = claim_again b h (eqb-true (length b) 6 (unless_passed _ _ _ e).0)
 
-pub list_read : (n lo hi : ℕ) (b : List ℕ) → Bytes b → exactly n lo hi b ≡ Passed → number_bytes (numbers n b) ≡ b
+pub list_read : (n lo hi : ℕ) (b : List ℕ) → Bytes b → exactly n lo hi b ≡ passed → number_bytes (numbers n b) ≡ b
 unfolding exactly
 list_read n lo hi b h e = number-bytes n b (eqb-true (length b) (2 * n) (unless_passed _ _ _ e).0) h
 
@@ -187,5 +187,5 @@ pub record Frames (s : List ℕ) (z : Sizes) : Type 0 where
   pub count : length (bodies s) ≡ record_count z
   pub bytes : Each Bytes [] (bodies s)
 
-pub encoded : (s : List ℕ) (z : Sizes) → Frames s z → decoded s ≡ Sound z → Describes (document_of z (bodies s)) z (bodies s)
+pub encoded : (s : List ℕ) (z : Sizes) → Frames s z → decoded s ≡ Ok z → Describes (document_of z (bodies s)) z (bodies s)
 encoded s z f e = checks_describe z (bodies s) (sound_checks s z e) f.count f.bytes

@@ -6,9 +6,8 @@ use native.Mathlib.Omega.{arith}
 use lib.ListN.{length, length-append, length-map, length-replicate}
 use Rattle.limits.specs.Limits as Limits
 use Rattle.logic.specs.Obligations.{flat}
-use Rattle.image_frames.specs.Frames.{none, whole_image}
+use Rattle.image_frames.specs.Frames.{none, whole_image, sound}
 use Rattle.image_frames.specs.Records.{bodies}
-use Rattle.image_frames.specs.declared.walk.Framing.TheVariants.{Sound}
 use Rattle.image_frames.proofs.KindCounts.{image_walked}
 use Rattle.trim_spec.specs.Canonical.{Each, Bytes}
 use Rattle.trim_spec.specs.Encode.{framed}
@@ -30,7 +29,7 @@ pub record FramedImage (s : List ℕ) (a b n m : ℕ) : Type 0 where
   pub bytes : Each Bytes [] (bodies s)
   pub few : length s ≤ Limits.image_bytes
 
-pub framed_image : (s : List ℕ) (a b n m : ℕ) → Bytes s → whole_image s ≡ Sound a b n m → FramedImage s a b n m
+pub framed_image : (s : List ℕ) (a b n m : ℕ) → Bytes s → whole_image s ≡ sound a b n m → FramedImage s a b n m
 framed_image s a b n m h e =
     let w = image_walked s a b n m e in
     let t = taken (length s) 1 none s a b n m (omega arith) h w.walks in

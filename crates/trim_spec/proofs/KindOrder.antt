@@ -9,9 +9,8 @@ use lib.ListN.{get_or, replicate}
 use borrow.Author.Tests.{eqb-true, eqb-false}
 use Rattle.image_frames.specs.Kinds as Kinds
 use Rattle.image_frames.specs.Kinds.{order, most}
-use Rattle.image_frames.specs.Frames.{counted, none}
+use Rattle.image_frames.specs.Frames.{counted, none, sound}
 use Rattle.image_frames.specs.declared.frame.Seen.{Seen}
-use Rattle.image_frames.specs.declared.walk.Framing.TheVariants.{Sound}
 use Rattle.trim_spec.specs.Framed.{kinds_of, Numbered}
 use Rattle.trim_spec.proofs.WalkByKind.{walk_kinds, kind_at, kind-at}
 use Rattle.trim_spec.proofs.WalkPassed.{Passes, final, passing}
@@ -69,7 +68,7 @@ pub record Ordered (ks : List ℕ) (a b n m : ℕ) : Type 0 where
   pub kinds : ks ≡ kinds_of a b n m
   pub numbered : Numbered a b n m
 
-pub kinds_ordered : (ks : List ℕ) (a b n m : ℕ) → walk_kinds 1 none ks ≡ Sound a b n m → Ordered ks a b n m
+pub kinds_ordered : (ks : List ℕ) (a b n m : ℕ) → walk_kinds 1 none ks ≡ sound a b n m → Ordered ks a b n m
 unfolding kinds_of runs kind_at most
 kinds_ordered ks a b n m e =
     let p = passing 1 none ks a b n m e in

@@ -10,14 +10,13 @@ use borrow.Author.Tests.{le-ltb, lt-ltb}
 use Rattle.limits.specs.Limits as Limits
 use Rattle.image_frames.specs.Kinds as Kinds
 use Rattle.image_frames.specs.Kinds.{order, most}
-use Rattle.image_frames.specs.Frames.{counted, admit, ended, none}
-use Rattle.image_frames.specs.declared.fault.Checked.TheVariants.{Passed}
+use Rattle.image_frames.specs.Frames.{counted, admit, ended, none, sound}
 use Rattle.image_frames.specs.declared.frame.Seen.{Seen}
-use Rattle.image_frames.specs.declared.walk.Framing.TheVariants.{Sound}
 use Rattle.trim_spec.specs.Framed.{kinds_of}
 use Rattle.trim_spec.proofs.WalkByKind.{walk_kinds}
+use Rattle.image_frames.specs.Fault.{passed}
 
-pub admit_passes : (c : Seen) (p : ℕ) → p ≤ Kinds.last → c.last ≤ p → p ≤ c.last + 1 → get_or c.count p 0 < most p → admit c p ≡ Passed
+pub admit_passes : (c : Seen) (p : ℕ) → p ≤ Kinds.last → c.last ≤ p → p ≤ c.last + 1 → get_or c.count p 0 < most p → admit c p ≡ passed
 unfolding admit
 admit_passes c p a b d h =
     let g : p - c.last ≤ 1 = omega arith in
@@ -49,7 +48,7 @@ module _ (k p : ℕ) (o : order k ≡ p) (top : p ≤ Kinds.last) where
 -- claims, of which there may be none, end the image
 claims_end : (m i a b n : ℕ) → m ≤ Limits.claims
     → walk_kinds i (record { last = Kinds.obligations; count = 0 ∷ 1 ∷ a ∷ b ∷ 1 ∷ n ∷ 1 ∷ 0 ∷ [] }) (replicate m Kinds.claim)
-    ≡ Sound a b n m
+    ≡ sound a b n m
 unfolding walk_kinds ended order most
 claims_end zero i a b n h = refl
 claims_end (suc m) i a b n h =
@@ -59,7 +58,7 @@ claims_end (suc m) i a b n h =
 
 -- the runs of an image, one after the other
 pub kinds_sound : (a b n m : ℕ) → 1 ≤ a → a ≤ Limits.formulas → 1 ≤ b → b ≤ Limits.threads → 1 ≤ n → n ≤ Limits.lines → m ≤ Limits.claims
-    → walk_kinds 1 none (kinds_of a b n m) ≡ Sound a b n m
+    → walk_kinds 1 none (kinds_of a b n m) ≡ sound a b n m
 unfolding kinds_of most order
 kinds_sound zero b n m la ha lb hb ln hn hm = elim la [ ]
 kinds_sound (suc a) zero n m la ha lb hb ln hn hm = elim lb [ ]

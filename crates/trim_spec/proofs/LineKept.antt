@@ -9,7 +9,6 @@ use borrow.Author.Tests.{eq-eqb}
 use Rattle.limits.specs.Limits as Limits
 use Rattle.limits.specs.Numbers.{nth, within, every}
 use Rattle.limits.proofs.PassedTests.{and_true, within_true}
-use Rattle.image_frames.specs.declared.fault.Checked.TheVariants.{Passed}
 use Rattle.image_bodies.specs.declared.line.Form.{Form}
 use Rattle.image_bodies.specs.declared.line.Form.TheVariants.{Triple, Implication, Inclusion, Pair, Unlisted}
 use Rattle.image_bodies.specs.Line.{form_of, triple_at, nowhere, placed, numbered, line_numbers}
@@ -35,6 +34,7 @@ use Rattle.trim_spec.proofs.TrimPremises.{Trimming, threads_kept}
 use Rattle.trim_spec.proofs.FormulaKept.{formula_within, sorted_by_kept}
 use Rattle.trim_spec.proofs.ThreadKept.{each_nth}
 use Rattle.trim_spec.proofs.TallyKept.{operation_kept}
+use Rattle.image_frames.specs.Fault.{passed}
 
 module _ {u k : List Bool} {D : Document} (T : Trimming u k D) where
   abbrev E : Document
@@ -48,7 +48,7 @@ module _ {u k : List Bool} {D : Document} (T : Trimming u k D) where
 
   -- the check of a line of the trimmed image
   abbrev PassedAt : ℕ → Type 0
-  PassedAt j = line (sizes E) (bodies_of E) (j - 1) (line_body (sizes E) (bodies_of E) j) ≡ Passed
+  PassedAt j = line (sizes E) (bodies_of E) (j - 1) (line_body (sizes E) (bodies_of E) j) ≡ passed
 
   module _ (n : ℕ) (low : 1 ≤ n) (high : n ≤ length D.lines) (mark : get_or k n false ≡ true) where
     abbrev v : LineRecord
@@ -68,14 +68,14 @@ module _ {u k : List Bool} {D : Document} (T : Trimming u k D) where
     abbrev b : List ℕ
     b = line_bytes v
 
-    passed : line (sizes D) (bodies_of D) (n - 1) b ≡ Passed
+    old_passed : line (sizes D) (bodies_of D) (n - 1) b ≡ passed
     unfolding sizes sizes_of
-    passed = rw (Places.line_at D T.threads n low high) at (line_passed (sizes D) (bodies_of D) T.checks n low high)
+    old_passed = rw (Places.line_at D T.threads n low high) at (line_passed (sizes D) (bodies_of D) T.checks n low high)
 
     numbers_passed : (placed (sizes D) (bodies_of D) (form_of (get_or b 0 0)) b ≡ true) × (numbered (sizes D) (n - 1) b ≡ true)
     unfolding line line_numbers
     numbers_passed =
-        let h = unless_passed _ _ _ (unless_passed _ _ _ (unless_passed _ _ _ (also_passed _ _ passed).0).1).1 in
+        let h = unless_passed _ _ _ (unless_passed _ _ _ (unless_passed _ _ _ (also_passed _ _ old_passed).0).1).1 in
         (h.0, (unless_passed _ _ _ h.1).0)
 
     abbrev few : Bool
@@ -155,9 +155,9 @@ module _ {u k : List Bool} {D : Document} (T : Trimming u k D) where
 
     sorted_passed : line_sorted (bodies_of D) b ≡ true
     unfolding line
-    sorted_passed = (unless_passed _ _ _ (also_passed _ _ passed).1).0
+    sorted_passed = (unless_passed _ _ _ (also_passed _ _ old_passed).1).0
 
-    check_kept : line (sizes E) (bodies_of E) (g n - 1) (line_bytes v') ≡ Passed
+    check_kept : line (sizes E) (bodies_of E) (g n - 1) (line_bytes v') ≡ passed
     unfolding line line_numbers
     check_kept =
         also_in _ _

@@ -8,7 +8,6 @@ use lib.ListN.{length, get_or}
 use borrow.Author.Tests.{eqb-true, eq-eqb}
 use Rattle.limits.specs.Numbers.{numbers, within, every}
 use Rattle.limits.proofs.PassedTests.{within_true, every_at}
-use Rattle.image_frames.specs.declared.fault.Checked.TheVariants.{Passed}
 use Rattle.image_bodies.specs.NumberList.{exactly}
 use Rattle.image_bodies.specs.PointCounts.{point_counts, obligation_count}
 use Rattle.image.specs.Decode.{sizes_of}
@@ -31,6 +30,7 @@ use Rattle.trim_spec.proofs.ChecksPassed.{within_in, unless_in, also_in, every_m
 use Rattle.trim_spec.proofs.TrimPremises.{Trimming, threads_kept}
 use Rattle.trim_spec.proofs.FormulaKept.{formula_within, outlined_kept}
 use Rattle.trim_spec.proofs.TallyKept.{tally_kept, obligation_count_kept}
+use Rattle.image_frames.specs.Fault.{passed}
 
 -- numbers in bytes, as many as are asked for
 module _ (l : List ℕ) (s : Shorts l) (n : ℕ) where
@@ -38,7 +38,7 @@ module _ (l : List ℕ) (s : Shorts l) (n : ℕ) where
   numbers_whole e =
       rw (← e) (ap (λ (b : List ℕ). numbers (length l) b) (sym (append-nil (number_bytes l))) ∙ numbers_back l [] s)
 
-  exactly_found : (lo hi : ℕ) → exactly n lo hi (number_bytes l) ≡ Passed → (length l ≡ n) × (every (within lo hi) l ≡ true)
+  exactly_found : (lo hi : ℕ) → exactly n lo hi (number_bytes l) ≡ passed → (length l ≡ n) × (every (within lo hi) l ≡ true)
   unfolding exactly
   exactly_found lo hi e =
       let h = unless_passed _ _ _ e in
@@ -46,7 +46,7 @@ module _ (l : List ℕ) (s : Shorts l) (n : ℕ) where
       let m : length l ≡ n = omega (arith, numbers_size l) in
       (m, rw (numbers_whole m) at (unless_passed _ _ _ h.1).0)
 
-  exactly_in : (lo hi : ℕ) → length l ≡ n → every (within lo hi) l ≡ true → exactly n lo hi (number_bytes l) ≡ Passed
+  exactly_in : (lo hi : ℕ) → length l ≡ n → every (within lo hi) l ≡ true → exactly n lo hi (number_bytes l) ≡ passed
   unfolding exactly
   exactly_in lo hi e h =
       let q = eq-eqb (length (number_bytes l)) (2 * n) (omega (arith, numbers_size l)) in
@@ -62,7 +62,7 @@ module _ {u k : List Bool} {D : Document} (T : Trimming u k D) where
   points = (point_counts (sizes D) (bodies_of D)).points
 
   abbrev Outlined : Document → Type 0
-  Outlined F = outline (sizes F) (bodies_of F) (number_bytes F.outline) ≡ Passed
+  Outlined F = outline (sizes F) (bodies_of F) (number_bytes F.outline) ≡ passed
 
   outline_was : Outlined D
   outline_was = rw (outline-at D T.threads) at (outline_passed (sizes D) (bodies_of D) T.checks)
@@ -99,7 +99,7 @@ module _ {u k : List Bool} {D : Document} (T : Trimming u k D) where
   pub points_length : length E.outline ≡ (point_counts (sizes E) (bodies_of E)).points
   points_length = rw (tally_kept T) (outline_length u k D ∙ outline_found.0)
 
-  pub outline_kept : outline (sizes E) (bodies_of E) (outline_body (sizes E) (bodies_of E)) ≡ Passed
+  pub outline_kept : outline (sizes E) (bodies_of E) (outline_body (sizes E) (bodies_of E)) ≡ passed
   unfolding outline
   outline_kept =
       let s = (canonical_kept u k D T.canonical).outline in
@@ -131,7 +131,7 @@ module _ {u k : List Bool} {D : Document} (T : Trimming u k D) where
   pub obligations_many : length E.obligations ≡ obligation_count (sizes E) (bodies_of E)
   obligations_many = rw (obligation_count_kept T) (obligations_length u k D ∙ obligations_found.0)
 
-  pub obligations_kept : obligations (sizes E) (bodies_of E) (obligations_body (sizes E) (bodies_of E)) ≡ Passed
+  pub obligations_kept : obligations (sizes E) (bodies_of E) (obligations_body (sizes E) (bodies_of E)) ≡ passed
   unfolding obligations
   obligations_kept =
       let s = (canonical_kept u k D T.canonical).obligations in

@@ -8,10 +8,9 @@ use lib.Seq.{drop-drop}
 use Rattle.limits.specs.Numbers.{le16}
 use Rattle.logic.specs.Obligations.{flat}
 use Rattle.image_frames.specs.Kinds.{order}
-use Rattle.image_frames.specs.Frames.{counted, frame, ended, walk}
+use Rattle.image_frames.specs.Frames.{counted, frame, ended, walk, sound}
 use Rattle.image_frames.specs.Records.{body}
 use Rattle.image_frames.specs.declared.frame.Seen.{Seen}
-use Rattle.image_frames.specs.declared.walk.Framing.TheVariants.{Sound}
 use Rattle.image_frames.proofs.PassedFrame as Passed
 use Rattle.image_frames.proofs.KindCounts.{passed_sound}
 use Rattle.verdict_record.specs.Record.{two}
@@ -57,7 +56,7 @@ module _ (l : List ℕ) (kinded : 2 ≤ le16 l) (inside : 2 + le16 l ≤ length 
 pub record Taken (i : ℕ) (c : Seen) (l : List ℕ) (a b n m : ℕ) : Type 0 where
   pub records : List Entry
   pub whole : flat framed records ≡ l
-  pub kinds : walk_kinds i c (map kind_of records) ≡ Sound a b n m
+  pub kinds : walk_kinds i c (map kind_of records) ≡ sound a b n m
   pub short : Each Framable [] (map body_of records)
   pub bytes : Each Bytes [] (map body_of records)
 
@@ -76,11 +75,11 @@ taken_front i c l a b n m h f t =
       bytes = each_cons Bytes [] (body l) (map body_of t.records) (front_bytes l f.kinded f.inside h) t.bytes;
     }
 
-taken_none : (i : ℕ) (c : Seen) (a b n m : ℕ) → ended i c ≡ Sound a b n m → Taken i c [] a b n m
+taken_none : (i : ℕ) (c : Seen) (a b n m : ℕ) → ended i c ≡ sound a b n m → Taken i c [] a b n m
 unfolding walk_kinds
 taken_none i c a b n m e = record { records = []; whole = refl; kinds = e; short = each_nil Framable []; bytes = each_nil Bytes [] }
 
-pub taken : (k i : ℕ) (c : Seen) (l : List ℕ) (a b n m : ℕ) → length l ≤ k → Bytes l → walk k i c l ≡ Sound a b n m → Taken i c l a b n m
+pub taken : (k i : ℕ) (c : Seen) (l : List ℕ) (a b n m : ℕ) → length l ≤ k → Bytes l → walk k i c l ≡ sound a b n m → Taken i c l a b n m
 unfolding walk
 taken zero i c [] a b n m g h e = taken_none i c a b n m e
 taken zero i c (x ∷ l) a b n m g h e = absurd (omega arith)

@@ -9,7 +9,6 @@ use borrow.Author.Tests.{eq-eqb}
 use Rattle.limits.specs.Limits as Limits
 use Rattle.limits.specs.Numbers.{nth, within, every}
 use Rattle.limits.proofs.PassedTests.{and_true, every_at}
-use Rattle.image_frames.specs.declared.fault.Checked.TheVariants.{Passed}
 use Rattle.image_header.specs.declared.sizes.Sizes.{Sizes}
 use Rattle.image_header.specs.declared.instruction.Instruction.{Instruction}
 use Rattle.image_header.specs.Instruction.{ranged}
@@ -33,6 +32,7 @@ use Rattle.trim_spec.proofs.CanonicalKept.{thread-fits}
 use Rattle.trim_spec.proofs.ChecksPassed.{and_in, unless_in, also_in, every_made}
 use Rattle.trim_spec.proofs.TrimPremises.{Trimming, threads_kept}
 use Rattle.trim_spec.proofs.InstructionKept.{Stated, ranged_kept, sorted_kept, owned_kept, absent_kept}
+use Rattle.image_frames.specs.Fault.{passed}
 
 -- what holds of each member, by its number
 pub each_nth : {A : Type 0} (F : A → Type 0) (d : A) (l : List A) (n : ℕ) → 1 ≤ n → n ≤ length l → Each F d l → F (nth l n d)
@@ -48,7 +48,7 @@ record Found (z : Sizes) (l : List (List ℕ)) (t : ℕ) (b : List ℕ) : Type 0
   owns : every (owned l t) (instructions b) ≡ true
   absent : every (result_absent l) (instructions b) ≡ true
 
-thread_found : (z : Sizes) (l : List (List ℕ)) (t : ℕ) (b : List ℕ) → thread z l t b ≡ Passed → Found z l t b
+thread_found : (z : Sizes) (l : List (List ℕ)) (t : ℕ) (b : List ℕ) → thread z l t b ≡ passed → Found z l t b
 unfolding thread thread_numbers numbered thread_registers
 thread_found z l t b e =
     let h = also_passed _ _ e in
@@ -134,7 +134,7 @@ module _ {u k : List Bool} {D : Document} (T : Trimming u k D) where
     absent_all : every (result_absent (bodies_of E)) (instructions (thread_bytes (map by is))) ≡ true
     absent_all = every_kept (result_absent (bodies_of D)) (result_absent (bodies_of E)) (λ i s e. absent_kept T last i s ∙ e) found.absent
 
-    pub thread_kept : thread (sizes E) (bodies_of E) t (thread_body (sizes E) (bodies_of E) t) ≡ Passed
+    pub thread_kept : thread (sizes E) (bodies_of E) t (thread_body (sizes E) (bodies_of E) t) ≡ passed
     unfolding thread thread_numbers numbered thread_registers
     thread_kept =
         rw new_body

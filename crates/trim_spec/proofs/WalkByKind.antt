@@ -8,10 +8,8 @@ use lib.Dec.{eqb, ltb}
 use borrow.Author.Tests.{eqb-true, ltb-false, ne_eqb}
 use Rattle.image_frames.specs.Kinds as Kinds
 use Rattle.image_frames.specs.Kinds.{order}
-use Rattle.image_frames.specs.Frames.{counted, admit, ended, unless_faulty}
+use Rattle.image_frames.specs.Frames.{counted, admit, ended, unless_faulty, Framing, sound}
 use Rattle.image_frames.specs.declared.frame.Seen.{Seen}
-use Rattle.image_frames.specs.declared.walk.Framing.{Framing}
-use Rattle.image_frames.specs.declared.walk.Framing.TheVariants.{Sound}
 use Rattle.image_frames.proofs.PassedFrame.{Admitted, admitted}
 use Rattle.image_frames.proofs.KindCounts.{passed_sound}
 
@@ -22,9 +20,9 @@ walk_kinds i c (k ∷ ks) = unless_faulty (admit c (order k)) i (walk_kinds (i +
 -- the first kind of a sound walk, and the walk behind it
 pub record Next (i : ℕ) (c : Seen) (k : ℕ) (ks : List ℕ) (a b n m : ℕ) : Type 0 where
   pub admits : Admitted c (order k)
-  pub rest : walk_kinds (i + 1) (counted c (order k)) ks ≡ Sound a b n m
+  pub rest : walk_kinds (i + 1) (counted c (order k)) ks ≡ sound a b n m
 
-pub next_kind : (i : ℕ) (c : Seen) (k : ℕ) (ks : List ℕ) (a b n m : ℕ) → walk_kinds i c (k ∷ ks) ≡ Sound a b n m → Next i c k ks a b n m
+pub next_kind : (i : ℕ) (c : Seen) (k : ℕ) (ks : List ℕ) (a b n m : ℕ) → walk_kinds i c (k ∷ ks) ≡ sound a b n m → Next i c k ks a b n m
 unfolding walk_kinds
 next_kind i c k ks a b n m h =
     let p = passed_sound (admit c (order k)) (walk_kinds (i + 1) (counted c (order k)) ks) i a b n m h in

@@ -1,5 +1,5 @@
 -- What a sound walk over kinds has found.
-use mathlib.Core.Path.{◌≡◌, refl}
+use mathlib.Core.Path.{◌≡◌, refl, ap}
 use mathlib.Core.Bool.{Bool, true, false, cond}
 use mathlib.Core.List.{List, [], ◌∷◌}
 use Prim.Native.Nat.{ℕ, ◌+◌, ◌≤◌}
@@ -8,12 +8,11 @@ use lib.ListN.{get_or}
 use borrow.Author.Tests.{ltb-false}
 use Rattle.image_frames.specs.Kinds as Kinds
 use Rattle.image_frames.specs.Kinds.{order}
-use Rattle.image_frames.specs.Frames.{counted, ended}
+use Rattle.image_frames.specs.Frames.{counted, ended, refused, sound}
 use Rattle.image_frames.specs.declared.fault.Fault.TheVariants.{Kind}
 use Rattle.image_frames.specs.declared.frame.Seen.{Seen}
-use Rattle.image_frames.specs.declared.walk.Framing.TheVariants.{Refused, Sound}
 use Rattle.image_frames.proofs.PassedFrame.{Admitted}
-use Rattle.image_frames.proofs.KindCounts.{refused_sound}
+use Rattle.image_frames.proofs.KindCounts.{counts_of, refused_sound}
 use Rattle.trim_spec.proofs.WalkByKind.{walk_kinds, next_kind}
 
 -- each of the kinds is admitted, and the image may end behind them
@@ -33,19 +32,25 @@ pub record Passing (c : Seen) (ks : List ℕ) (a b n m : ℕ) : Type 0 where
   pub lines : get_or (final c ks).count Kinds.line 0 ≡ n
   pub claims : get_or (final c ks).count Kinds.last 0 ≡ m
 
-ended_passing : (i : ℕ) (c : Seen) (a b n m : ℕ) → ended i c ≡ Sound a b n m → Passing c [] a b n m
-unfolding ended
+ended_passing : (i : ℕ) (c : Seen) (a b n m : ℕ) → ended i c ≡ sound a b n m → Passing c [] a b n m
+unfolding ended counts_of
 ended_passing i c a b n m = go (ltb c.last Kinds.obligations) refl
   where
     go : (p : Bool) → ltb c.last Kinds.obligations ≡ p
-        → cond p (Refused Kind i)
-        (Sound (get_or c.count Kinds.formula 0) (get_or c.count Kinds.thread 0)
+        → cond p (refused Kind i)
+        (sound (get_or c.count Kinds.formula 0) (get_or c.count Kinds.thread 0)
         (get_or c.count Kinds.line 0) (get_or c.count Kinds.last 0))
-        ≡ Sound a b n m → Passing c [] a b n m
+        ≡ sound a b n m → Passing c [] a b n m
     go true d e = refused_sound Kind i a b n m e
-    go false d e = record { passes = ltb-false c.last Kinds.obligations d; formulas = cc; threads = cc; lines = cc; claims = cc }
+    go false d e = record {
+      passes = ltb-false c.last Kinds.obligations d;
+      formulas = ap (λ r. (counts_of r).formulas) e;
+      threads = ap (λ r. (counts_of r).threads) e;
+      lines = ap (λ r. (counts_of r).lines) e;
+      claims = ap (λ r. (counts_of r).claims) e;
+    }
 
-pub passing : (i : ℕ) (c : Seen) (ks : List ℕ) (a b n m : ℕ) → walk_kinds i c ks ≡ Sound a b n m → Passing c ks a b n m
+pub passing : (i : ℕ) (c : Seen) (ks : List ℕ) (a b n m : ℕ) → walk_kinds i c ks ≡ sound a b n m → Passing c ks a b n m
 unfolding walk_kinds
 passing i c [] a b n m e = ended_passing i c a b n m e
 passing i c (k ∷ ks) a b n m e =

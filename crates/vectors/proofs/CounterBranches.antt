@@ -1,10 +1,6 @@
 -- The ways through the functions of a tally, one law for each.
-use Rattle.std.proofs.Common.{◌≡◌, ℕ, ◌<◌, ◌≤◌, Bool, true, false, not, eqb, get_or, set, le-ltb, lt-ltb, eq-eqb, ne_eqb}
-use Rattle.std.specs.declared.io.Error.{Error}
-use Rattle.vectors.specs.End.{is_whole}
+use Rattle.std.proofs.Common.{◌≡◌, ℕ, ◌<◌, ◌≤◌, Bool, true, false, Some, get_or, set, le-ltb, lt-ltb, eq-eqb, ne_eqb}
 use Rattle.vectors.specs.Counters.{kinds_limit, more, with_kind, with_difference, with_case}
-use Rattle.vectors.specs.declared.end.End.{End}
-use Rattle.vectors.specs.declared.end.End.TheVariants.{Whole, Cut, Unread, Large, Many}
 use Rattle.vectors.specs.declared.counters.Counters.{Counters}
 
 module _ (t : Counters) (k c : ℕ) (e : c ≡ more t.cases) where
@@ -23,7 +19,7 @@ module _ (t : Counters) (d : ℕ) (e : d ≡ more t.differ) where
   unfolding with_difference
   difference_later z = rw (e, ne_eqb _ _ z)
 
-  pub difference_first : t.differ ≡ 0 → record { cases = t.cases; kinds = t.kinds; differ = d; first = t.cases } ≡ with_difference t
+  pub difference_first : t.differ ≡ 0 → record { cases = t.cases; kinds = t.kinds; differ = d; first = Some t.cases } ≡ with_difference t
   unfolding with_difference
   difference_first z = rw (e, eq-eqb _ _ z)
 
@@ -37,26 +33,3 @@ module _ (t q : Counters) (k : ℕ) (same : Bool) (e : q ≡ with_kind t k) wher
   case_other r s d = rw (s, ← e) d
 
 pub ruleset counters_branches = (kind_past, kind_in, difference_later, difference_first, case_same, case_other)
-
-module _ (e : End) (n : ℕ) where
-  pub whole_all : e ≡ Whole → not (eqb n 0) ≡ is_whole e n
-  unfolding is_whole
-  whole_all h = rw h
-
-  pub whole_cut : e ≡ Cut → false ≡ is_whole e n
-  unfolding is_whole
-  whole_cut h = rw h
-
-  pub whole_unread : (x : Error) → e ≡ Unread x → false ≡ is_whole e n
-  unfolding is_whole
-  whole_unread x h = rw h
-
-  pub whole_large : e ≡ Large → false ≡ is_whole e n
-  unfolding is_whole
-  whole_large h = rw h
-
-  pub whole_many : e ≡ Many → false ≡ is_whole e n
-  unfolding is_whole
-  whole_many h = rw h
-
-pub ruleset is_whole_branches = (whole_all, whole_cut, whole_unread, whole_large, whole_many)

@@ -1,5 +1,5 @@
 -- Tallies that come from cases, and what their numbers say of them.
-use Rattle.std.proofs.Common.{◌≡◌, ℕ, ◌+◌, ◌-◌, ◌^◌, ◌<◌, ◌≤◌, Bool, true, false, List, [], ◌∷◌, length, refl, ap, ◌∙◌, arith}
+use Rattle.std.proofs.Common.{◌≡◌, ℕ, ◌+◌, ◌^◌, ◌<◌, ◌≤◌, Bool, true, false, List, [], ◌∷◌, length, refl, ap, ◌∙◌, arith}
 use Rattle.vectors.specs.Counters.{no_case, with_kind, with_difference, with_case}
 use Rattle.vectors.specs.CasesCounted.{Case, counted, differing, FromCases}
 use Rattle.vectors.specs.declared.counters.Counters.{Counters}
@@ -8,19 +8,19 @@ use Rattle.vectors.specs.declared.counters.Counters.{Counters}
 abbrev turns : ℕ
 turns = 100001
 
--- within a loop that judges at most so many further cases
-pub record Running (t : Counters) (left : ℕ) : Type 0 where
+-- within a loop that has judged at most n cases
+pub record Running (t : Counters) (n : ℕ) : Type 0 where
   judged : List Case
   tells : t ≡ counted judged
-  few : length judged + left ≤ turns
+  few : length judged ≤ n
 
-pub running_none : (t : Counters) → t ≡ no_case → Running t turns
+pub running_none : (t : Counters) → t ≡ no_case → Running t 0
 unfolding counted
 running_none t e = record { judged = []; tells = e; few = omega arith }
 
-pub running_more : (t r : Counters) (left k : ℕ) (same : Bool) → 0 < left → Running t left → r ≡ with_case t k same → Running r (left - 1)
+pub running_more : (t r : Counters) (n k : ℕ) (same : Bool) → Running t n → r ≡ with_case t k same → Running r (n + 1)
 unfolding counted
-running_more t r left k same h f e =
+running_more t r n k same f e =
     record {
       judged = record { kind = k; same = same } ∷ f.judged;
       tells = e
@@ -28,8 +28,8 @@ running_more t r left k same h f e =
       few = omega (arith, f.few);
     }
 
-pub running_over : (t : Counters) (left : ℕ) → Running t left → FromCases t
-running_over t left f = record { judged = f.judged; tells = f.tells; few = omega (arith, f.few) }
+pub running_over : (t : Counters) (n : ℕ) → n ≤ turns → Running t n → FromCases t
+running_over t n h f = record { judged = f.judged; tells = f.tells; few = omega (arith, f.few) }
 
 cases_counted : (l : List Case) → length l < 2 ^ 64 → (counted l).cases ≡ length l
 unfolding counted no_case with_case with_kind with_difference

@@ -1,10 +1,10 @@
 -- Stored bills, and answers compared with them; s is what is stored.
-use Rattle.std.specs.Prelude.{ℕ, min, Bool, cond, ◌&&◌, List, [], ◌∷◌, drop, replicate, ◌==◌}
+use Rattle.std.specs.Prelude.{ℕ, min, Bool, ◌&&◌, List, [], ◌∷◌, drop, replicate, ◌==◌}
 use Rattle.limits.specs.Numbers.{le16}
 use Rattle.bill_spec.specs.Output.{tariff_of}
 use Rattle.bill_spec.specs.declared.tariff.Tariff.{Tariff}
 use Rattle.vectors.specs.Number.{long}
-use Rattle.vectors.specs.Room.{holds}
+use Rattle.vectors.specs.Room.{holds, written}
 
 -- five prices of 16 bits
 unfoldable pub tariff_at : List ℕ → Tariff
@@ -31,7 +31,7 @@ unfoldable pub lent_at : List ℕ → ℕ
 lent_at s = min (long (drop 14 s)) most
 
 -- the code
-unfoldable pub code_at : List ℕ → ℕ
+abbrev pub code_at : List ℕ → ℕ
 code_at s = le16 (drop 18 s)
 
 -- cents, the number afterwards, the sums of threads
@@ -39,8 +39,8 @@ unfoldable pub numbers_at : List ℕ → List ℕ
 numbers_at s = long (drop 20 s) ∷ long (drop 24 s) ∷ long (drop 28 s) ∷ long (drop 32 s) ∷ long (drop 36 s) ∷ long (drop 40 s) ∷ []
 
 -- the numbers written; with code 1 there are none
-unfoldable pub written_at : ℕ → List ℕ → List ℕ
-written_at code s = cond (code == 1) [] (numbers_at s)
+abbrev pub written_at : ℕ → List ℕ → List ℕ
+written_at code s = written code (numbers_at s)
 
 -- the code and the whole buffer afterwards are as stored
 unfoldable pub same_answer : ℕ → List ℕ → List ℕ → Bool

@@ -1,9 +1,9 @@
 -- Stored answers of replays, and answers compared with them.
-use Rattle.std.specs.Prelude.{ℕ, ◌+◌, ◌*◌, min, Bool, cond, ◌&&◌, List, [], drop, replicate, ◌==◌}
+use Rattle.std.specs.Prelude.{ℕ, ◌+◌, ◌*◌, min, Bool, ◌&&◌, List, drop, replicate, ◌==◌}
 use Rattle.limits.specs.Numbers.{le16}
 use Rattle.tables_columns.specs.Column.{column}
 use Rattle.vectors.specs.Number.{long}
-use Rattle.vectors.specs.Room.{holds}
+use Rattle.vectors.specs.Room.{holds, written}
 
 -- how many bytes the table has
 abbrev pub most_bytes : ℕ
@@ -34,7 +34,7 @@ unfoldable pub lent_at : List ℕ → ℕ → ℕ → ℕ
 lent_at s at most = min (long (drop at s)) most
 
 -- the code, in front of a stored answer s
-unfoldable pub code_at : List ℕ → ℕ
+abbrev pub code_at : List ℕ → ℕ
 code_at s = le16 (drop 0 s)
 
 -- steps, points, registers
@@ -42,8 +42,8 @@ unfoldable pub numbers_at : List ℕ → List ℕ
 numbers_at s = column (λ i. long (drop (2 + 4 * i) s)) 21
 
 -- the numbers written; with code 1 there are none
-unfoldable pub told_at : ℕ → List ℕ → List ℕ
-told_at code s = cond (code == 1) [] (numbers_at s)
+abbrev pub told_at : ℕ → List ℕ → List ℕ
+told_at code s = written code (numbers_at s)
 
 -- the code, the whole table and all of the numbers afterwards are as stored
 unfoldable pub same_answer : ℕ → List ℕ → List ℕ → List ℕ → List ℕ → Bool

@@ -1,5 +1,5 @@
 -- Answers counted.
-use Rattle.std.specs.Prelude.{ℕ, ◌+◌, ◌%◌, ◌^◌, Bool, cond, replicate, ◌==◌, nat_lt, slice_index, slice_set}
+use Rattle.std.specs.Prelude.{ℕ, ◌+◌, ◌%◌, ◌^◌, Bool, cond, Some, None, replicate, ◌==◌, nat_lt, slice_index, slice_set}
 use Rattle.vectors.specs.declared.counters.Counters.{Counters}
 
 -- kinds from here on are not counted
@@ -12,7 +12,7 @@ more n = (n + 1) % 2 ^ 64
 
 -- the counters before the first case
 unfoldable pub no_case : Counters
-no_case = record { cases = 0; kinds = replicate kinds_limit 0; differ = 0; first = 0 }
+no_case = record { cases = 0; kinds = replicate kinds_limit 0; differ = 0; first = None }
 
 -- one case more, with an answer of this kind
 unfoldable pub with_kind : Counters → ℕ → Counters
@@ -30,7 +30,7 @@ with_difference t = record {
   cases = t.cases;
   kinds = t.kinds;
   differ = more t.differ;
-  first = cond (t.differ == 0) t.cases t.first;
+  first = cond (t.differ == 0) (Some t.cases) t.first;
 }
 
 -- one case more: the kind of its answer, and whether that is the stored one

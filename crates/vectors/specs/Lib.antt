@@ -1,6 +1,4 @@
 pub mod End
-pub mod File
-pub mod Next
 pub mod Number
 pub mod Room
 pub mod Space

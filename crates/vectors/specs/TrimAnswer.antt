@@ -22,7 +22,7 @@ unfoldable pub lent_at : List ℕ → ℕ
 lent_at s = min (long (drop 0 s)) most
 
 -- the code
-unfoldable pub code_at : List ℕ → ℕ
+abbrev pub code_at : List ℕ → ℕ
 code_at s = le16 (drop 4 s)
 
 -- the code, the length written and the whole buffer afterwards are as stored; with an error `trimmed` is empty

@@ -1,22 +1,36 @@
 -- A stored turn at a service; s is what is stored.
-use Rattle.std.specs.Prelude.{ℕ, ◌-◌, min, cond, List, drop, replicate, ◌==◌, slice_index}
+use Rattle.std.specs.Prelude.{ℕ, ◌-◌, min, cond, Result, Ok, Err, List, drop, replicate, ◌==◌, slice_index}
 use Rattle.limits.specs.Numbers.{le16}
 use Rattle.bill_spec.specs.Output.{tariff_of}
 use Rattle.bill_spec.specs.declared.tariff.Tariff.{Tariff}
 use Rattle.vectors.specs.Number.{long}
 use Rattle.vectors.specs.declared.turn.TurnKind.{TurnKind}
-use Rattle.vectors.specs.declared.turn.TurnKind.TheVariants.{Open, Set, Check, Trim, Bill, Handover, Replay, ReplayAcross, Other}
+use Rattle.vectors.specs.declared.turn.TurnKind.TheVariants.{Open, Set, Check, Trim, Bill, Handover, Replay, ReplayAcross}
+use Rattle.vectors.specs.declared.turn.UnknownTurn.{UnknownTurn}
 
 -- what is done, by its number
-abbrev pub turn_kind_by : ℕ → TurnKind
+abbrev pub turn_kind_by : ℕ → Result TurnKind UnknownTurn
 turn_kind_by n =
-    cond (n == 0) Open
-    (cond (n == 1) Set
-    (cond (n == 2) Check
-    (cond (n == 3) Trim (cond (n == 4) Bill (cond (n == 5) Handover (cond (n == 6) Replay (cond (n == 7) ReplayAcross Other)))))))
+    cond (n == 0) (Ok Open)
+    (cond (n == 1) (Ok Set)
+    (cond (n == 2) (Ok Check)
+    (cond (n == 3) (Ok Trim)
+    (cond (n == 4) (Ok Bill)
+    (cond (n == 5) (Ok Handover) (cond (n == 6) (Ok Replay) (cond (n == 7) (Ok ReplayAcross) (Err (record { 0 = n })))))))))
+
+-- the number of what is done
+abbrev pub number_of : TurnKind → ℕ
+number_of Open = 0
+number_of Set = 1
+number_of Check = 2
+number_of Trim = 3
+number_of Bill = 4
+number_of Handover = 5
+number_of Replay = 6
+number_of ReplayAcross = 7
 
 -- what the turn does
-unfoldable pub turn_kind_of : List ℕ → TurnKind
+unfoldable pub turn_kind_of : List ℕ → Result TurnKind UnknownTurn
 turn_kind_of s = turn_kind_by (slice_index s 0)
 
 -- how many numbers of the service are passed: all sixteen but as many as are stored

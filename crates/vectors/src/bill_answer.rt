@@ -3,11 +3,10 @@ ghost use Rattle.std.specs.Prelude.{◌≡◌};
 ghost use Rattle.vectors.specs.BillAnswer.{tariff_at, billed_at, lent_at, numbers_at, same_answer};
 
 use crate::number::u32_at;
-use crate::room::holds_numbers;
+use crate::room::{holds, written};
 use bill_spec::numbers::Numbers;
 use bill_spec::tariff::Tariff;
 use limits::read::u16_at;
-use verdict_record::output::Output;
 
 // The layout of a stored bill.
 #[derive(Drop)]
@@ -32,6 +31,7 @@ impl Room {
 }
 
 // The stored tariff.
+#[tactic(auto, using(limits::proofs::BranchTests::tests), unfolding(crate::specs::BillAnswer::tariff_at))]
 pub fn tariff_at(bytes: &[u8]) -> Tariff
     ensures { result ≡ tariff_at bytes.now }
 {
@@ -45,6 +45,7 @@ pub fn tariff_at(bytes: &[u8]) -> Tariff
 }
 
 // The stored number of images billed before.
+#[tactic(auto, unfolding(crate::specs::BillAnswer::billed_at))]
 pub fn billed_at(bytes: &[u8]) -> u32
     ensures { result ≡ billed_at bytes.now }
 {
@@ -52,43 +53,33 @@ pub fn billed_at(bytes: &[u8]) -> u32
 }
 
 // How many numbers of the buffer the case passes.
+#[tactic(auto, unfolding(crate::specs::BillAnswer::lent_at))]
 pub fn lent_at(bytes: &[u8]) -> usize
     ensures { result ≡ lent_at bytes.now }
 {
-    let n = u32_at(bytes, 14);
-    if Room::NUMBERS < n {
-        return Room::NUMBERS;
-    }
-    n
+    u32_at(bytes, 14).min(Room::NUMBERS)
 }
 
 // The stored answer.
-fn numbers_at(bytes: &[u8]) -> Numbers
-    ensures { result.at ≡ numbers_at bytes.now }
+#[tactic(auto, using(limits::proofs::BranchTests::tests), unfolding(crate::specs::BillAnswer::numbers_at))]
+fn numbers_at(bytes: &[u8]) -> [u32; Numbers::SIZE]
+    ensures { result ≡ numbers_at bytes.now }
 {
-    Numbers {
-        at: [
-            u32_at(bytes, 20) as u32,
-            u32_at(bytes, 24) as u32,
-            u32_at(bytes, 28) as u32,
-            u32_at(bytes, 32) as u32,
-            u32_at(bytes, 36) as u32,
-            u32_at(bytes, 40) as u32,
-        ],
-    }
+    [
+        u32_at(bytes, 20) as u32,
+        u32_at(bytes, 24) as u32,
+        u32_at(bytes, 28) as u32,
+        u32_at(bytes, 32) as u32,
+        u32_at(bytes, 36) as u32,
+        u32_at(bytes, 40) as u32,
+    ]
 }
 
 // Whether the code and the whole buffer are as stored; with code 1 nothing is written.
-pub fn same_answer<'a, 'b>(code: u16, room: &'a [u32], bytes: &'b [u8]) -> bool
+#[tactic(auto, using(limits::proofs::BranchTests::tests), unfolding(crate::specs::BillAnswer::same_answer))]
+pub fn same_answer(code: u16, room: &[u32], bytes: &[u8]) -> bool
     ensures { result ≡ same_answer code room.now bytes.now }
 {
-    if code as usize != u16_at(bytes, 18) {
-        return false;
-    }
-    let n = numbers_at(bytes);
-    let at = n.at;
-    if code == Output::SHORT {
-        return holds_numbers(room, &at[..0], Room::BLANK);
-    }
-    holds_numbers(room, &at, Room::BLANK)
+    usize::from(code) == u16_at(bytes, 18)
+        && holds(room, written(code, &numbers_at(bytes)), Room::BLANK)
 }

@@ -1,13 +1,11 @@
 // Stored answers of replays, code and numbers, and answers compared with them.
-ghost use Rattle.std.specs.Prelude.{◌≡◌, ◌<◌, ◌≤◌, length, ◌==◌, slice_index, slice_index_or};
-ghost use Rattle.vectors.specs.Room.{holds};
-ghost use Rattle.vectors.specs.CallAnswer.{blank_table, blank_numbers, empty, lent_at, told_at, same_answer};
+ghost use Rattle.std.specs.Prelude.{◌≡◌};
+ghost use Rattle.vectors.specs.CallAnswer.{blank_table, blank_numbers, lent_at, numbers_at, same_answer};
 
 use crate::number::u32_at;
-use crate::room::holds_bytes;
+use crate::room::{holds, written};
 use limits::read::u16_at;
 use replay_machine::answer::Answer;
-use verdict_record::output::Output;
 
 // The table of writes and the buffer for the numbers, of which a case passes the front.
 #[derive(Drop)]
@@ -28,6 +26,7 @@ impl Room {
 }
 
 // The table before the call.
+#[tactic(auto, unfolding(crate::specs::CallAnswer::blank_table))]
 pub fn blank_table() -> [u8; Room::BYTES]
     ensures { result ≡ blank_table }
 {
@@ -35,6 +34,7 @@ pub fn blank_table() -> [u8; Room::BYTES]
 }
 
 // The buffer for the numbers before the call.
+#[tactic(auto, unfolding(crate::specs::CallAnswer::blank_numbers))]
 pub fn blank_numbers() -> [usize; Room::NUMBERS]
     ensures { result ≡ blank_numbers }
 {
@@ -42,67 +42,31 @@ pub fn blank_numbers() -> [usize; Room::NUMBERS]
 }
 
 // The number stored at `at`, at most `most`: how many bytes or numbers the case passes.
+#[tactic(auto, unfolding(crate::specs::CallAnswer::lent_at))]
 pub fn lent_at(bytes: &[u8], at: usize, most: usize) -> usize
     ensures { result ≡ lent_at bytes.now at most }
 {
-    let n = u32_at(bytes, at);
-    if most < n {
-        return most;
-    }
-    n
+    u32_at(bytes, at).min(most)
 }
 
-// The number that belongs at index `i` of the buffer; with code 1 nothing is written.
-fn told_number(code: u16, bytes: &[u8], i: usize) -> usize
-    ensures { result ≡ slice_index_or (told_at code bytes.now) i empty }
+// The stored numbers: steps, points, registers.
+#[tactic(auto, using(crate::proofs::StoredNumbers::stored))]
+fn numbers_at(bytes: &[u8]) -> [usize; Answer::SIZE]
+    ensures { result ≡ numbers_at bytes.now }
 {
-    if code == Output::SHORT {
-        return Room::EMPTY;
+    let mut numbers = [0; Answer::SIZE];
+    for i in 0..Answer::SIZE {
+        numbers[i] = u32_at(bytes, 2 + 4 * i);
     }
-    if Answer::SIZE <= i {
-        return Room::EMPTY;
-    }
-    u32_at(bytes, 2 + 4 * i)
-}
-
-fn same_number<'a, 'b>(code: u16, room: &'a [usize], bytes: &'b [u8], i: usize) -> bool
-    requires { i < length room.now }
-    ensures { result ≡ (slice_index room.now i == slice_index_or (told_at code bytes.now) i empty) }
-{
-    room[i] == told_number(code, bytes, i)
-}
-
-fn same_numbers<'a, 'b>(code: u16, room: &'a [usize], bytes: &'b [u8]) -> bool
-    requires { 21 ≤ length room.now }
-    ensures { result ≡ holds room.now (told_at code bytes.now) empty }
-{
-    let mut i: usize = 0;
-    while i < room.len() {
-        if same_number(code, room, bytes, i) {
-            i += 1;
-        } else {
-            return false;
-        }
-    }
-    true
+    numbers
 }
 
 // Whether the code, the whole table and all of the numbers are as stored; `entries` is the front of the table.
-pub fn same_answer<'a, 'b, 'c, 'd>(
-    code: u16,
-    table: &'a [u8],
-    numbers: &'b [usize],
-    bytes: &'c [u8],
-    entries: &'d [u8],
-) -> bool
-    requires { 21 ≤ length numbers.now }
+#[tactic(auto, using(limits::proofs::BranchTests::tests), unfolding(crate::specs::CallAnswer::same_answer))]
+pub fn same_answer(code: u16, table: &[u8], numbers: &[usize], bytes: &[u8], entries: &[u8]) -> bool
     ensures { result ≡ same_answer code table.now numbers.now bytes.now entries.now }
 {
-    if code as usize != u16_at(bytes, 0) {
-        return false;
-    }
-    if holds_bytes(table, entries, Room::BLANK) {
-        return same_numbers(code, numbers, bytes);
-    }
-    false
+    usize::from(code) == u16_at(bytes, 0)
+        && holds(table, entries, Room::BLANK)
+        && holds(numbers, written(code, &numbers_at(bytes)), Room::EMPTY)
 }

@@ -2,8 +2,6 @@
 ghost use Rattle.std.specs.Prelude.{◌≡◌};
 ghost use Rattle.vectors.specs.Counters.{more, no_case, with_kind, with_difference, with_case};
 
-use crate::end::End;
-
 // What is counted over the cases of a file.
 #[derive(Clone, Copy)]
 pub struct Counters {
@@ -11,8 +9,8 @@ pub struct Counters {
     // How many answers there are of each kind.
     pub kinds: [u64; Kind::LIMIT],
     pub differ: u64,
-    // The number of the first case that differs, from 1; 0 where none does.
-    pub first: u64,
+    // The number of the first case that differs, from 1.
+    pub first: Option<u64>,
 }
 
 // The kind of an answer is a number, such as its code.
@@ -24,26 +22,24 @@ impl Kind {
     pub const LIMIT: usize = 64;
 }
 
-// The counters of the whole cases before the end. An enum holds no array, so the counters are beside it.
-#[derive(Clone, Copy)]
-pub struct Judged {
-    pub end: End,
-    pub tally: Counters,
-}
+// How many cases are judged.
+#[derive(Drop)]
+pub struct Most;
 
-impl Judged {
-    // No more cases are judged: a proved loop has to end, and nothing says that a file does.
-    pub const MOST: u64 = 100000;
+impl Most {
+    // No more than this: a proved loop has to end, and nothing says that a file does.
+    pub const CASES: u64 = 100000;
 }
 
 // One more than `n`. No file has enough cases for this to wrap; a plain sum would need a proof of that.
 pub fn more_than(n: u64) -> u64
     ensures { result ≡ more n }
 {
-    std::num::wrapping_add_u64(n, 1)
+    n.wrapping_add(1)
 }
 
 // The counters before the first case.
+#[tactic(auto, using(limits::proofs::BranchTests::tests), unfolding(crate::specs::Counters::no_case))]
 pub fn no_case() -> Counters
     ensures { result ≡ no_case }
 {
@@ -51,11 +47,12 @@ pub fn no_case() -> Counters
         cases: 0,
         kinds: [0; Kind::LIMIT],
         differ: 0,
-        first: 0,
+        first: None,
     }
 }
 
 // The counters with one case more, whose answer is of this kind.
+#[tactic(auto, using(crate::proofs::CounterBranches::counters_branches, limits::proofs::BranchTests::tests))]
 fn with_kind(counters: Counters, kind: usize) -> Counters
     ensures { result ≡ with_kind counters kind }
 {
@@ -69,6 +66,7 @@ fn with_kind(counters: Counters, kind: usize) -> Counters
 }
 
 // The counters, if the case counted last differs.
+#[tactic(auto, using(crate::proofs::CounterBranches::counters_branches, limits::proofs::BranchTests::tests))]
 fn with_difference(counters: Counters) -> Counters
     ensures { result ≡ with_difference counters }
 {
@@ -77,11 +75,12 @@ fn with_difference(counters: Counters) -> Counters
     if counters.differ != 0 {
         return next;
     }
-    next.first = counters.cases;
+    next.first = Some(counters.cases);
     next
 }
 
 // The counters with one case more: the kind of its answer, and whether that is the stored answer.
+#[tactic(auto, using(crate::proofs::CounterBranches::counters_branches, limits::proofs::BranchTests::tests))]
 pub fn with_case(counters: Counters, kind: usize, same: bool) -> Counters
     ensures { result ≡ with_case counters kind same }
 {

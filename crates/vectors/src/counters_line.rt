@@ -1,49 +1,42 @@
-// Counters, written to standard output.
-use crate::counters::{Counters, Kind};
-use crate::stream::{put, put_number};
+// Counters as text.
+use crate::counters::Counters;
+use std::fmt;
 
-// Writes a number and what it counts.
-pub fn write_count<W: Print>(out: &W, n: u64, what: &[u8]) {
-    put_number(out, n);
-    put(out, what);
+// How many cases differ, and which is the first.
+#[derive(Clone, Copy)]
+pub struct Differences {
+    pub differ: u64,
+    pub first: Option<u64>,
 }
 
-// Writes how many cases differ, which is the first, and a newline.
-pub fn write_differences<W: Print>(out: &W, counters: Counters) {
-    write_count(out, counters.differ, b" differ");
-    if counters.differ != 0 {
-        write_first(out, counters.first);
-    }
-    put(out, b"\n");
-}
-
-fn write_first<W: Print>(out: &W, number: u64) {
-    put(out, b", first case ");
-    put_number(out, number);
-}
-
-// Writes how many answers have a code, if any has.
-fn write_code<W: Print>(out: &W, n: u64, code: usize) {
-    if n == 0 {
-        return;
-    }
-    put(out, b", ");
-    write_count(out, n, b" of code ");
-    put_number(out, code as u64);
-}
-
-fn write_codes<W: Print>(out: &W, counters: Counters) {
-    for code in 0..Kind::LIMIT {
-        write_code(out, counters.kinds[code], code);
+impl From<Counters> for Differences {
+    fn from(counters: Counters) -> Differences {
+        Differences {
+            differ: counters.differ,
+            first: counters.first,
+        }
     }
 }
 
-// Writes the line for a file whose answers are counted by their codes.
-pub fn write_line<W: Print>(out: &W, path: &[u8], counters: Counters) {
-    put(out, path);
-    put(out, b": ");
-    write_count(out, counters.cases, b" cases");
-    write_codes(out, counters);
-    put(out, b"; ");
-    write_differences(out, counters);
+impl fmt::Display for Differences {
+    fn fmt<W: fmt::Write>(&self, f: &mut fmt::Formatter<W>) -> fmt::Result {
+        write!(f, "{} differ", self.differ)?;
+        match self.first {
+            Some(first) => write!(f, ", first case {first}"),
+            None => Ok(()),
+        }
+    }
+}
+
+// The counters of answers that are counted by their codes.
+impl fmt::Display for Counters {
+    fn fmt<W: fmt::Write>(&self, f: &mut fmt::Formatter<W>) -> fmt::Result {
+        write!(f, "{} cases", self.cases)?;
+        for (code, n) in self.kinds.iter().enumerate() {
+            if *n != 0 {
+                write!(f, ", {n} of code {code}")?;
+            }
+        }
+        write!(f, "; {}", Differences::from(*self))
+    }
 }

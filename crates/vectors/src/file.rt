@@ -1,17 +1,17 @@
 // Files of cases, named by the arguments.
-ghost use Rattle.std.specs.Prelude.{◌≤◌, length};
-ghost use Rattle.vectors.specs.File.{Named};
+ghost use Rattle.std.specs.Prelude.{◌≤◌, length, IfSome};
+ghost use Rattle.std.specs.Counts.{IsPrefixLen};
 
-use crate::complaint::{complain, fail};
+use crate::complaint::say;
 use std::env::FillError;
 use std::rt::{Env, Files};
 use std::{fs, str};
 
-// A file that is open for reading, with its name at the start of a buffer; or none, and standard error says why.
+// A file that is open for reading, with the length of its name, which is at the start of a buffer.
 #[derive(Drop)]
-pub enum File<F> {
-    Open { file: F, name: usize },
-    Missing,
+pub struct Opened<F> {
+    pub file: F,
+    pub name: usize,
 }
 
 // The room for a file's name.
@@ -28,42 +28,48 @@ pub fn has_argument<R: Env>(rt: &R, number: usize) -> bool {
     !matches!(rt.arg(number, &mut []), Err(FillError::NotPresent))
 }
 
-// Opens the file that the argument `number` names. Its name goes to the start of `path`.
+// Opens the file that the argument `number` names. Its name goes to the start of `path`. Where none is opened, standard error says why.
+// The runtime, a stream and a number are passed one by one: they have unlike owners, and meet in this call alone.
 pub fn open_argument<R: Env + Files, E: Print>(
     rt: &R,
     err: &E,
     number: usize,
     path: &mut [u8],
-) -> File<R::File>
-    ensures { Named result path.new }
+) -> Option<Opened<R::File>>
+    ensures { IfSome result (λ opened. IsPrefixLen opened.name path.new) }
 {
     match rt.arg(number, path) {
         Ok(name) => open_named(rt, err, path, name),
         Err(FillError::NotPresent) => {
-            complain(err, b"the file of cases", b"no argument names it");
-            File::Missing
+            say(err, b"the file of cases", "no argument names it");
+            None
         }
         Err(FillError::TooLong) => {
-            complain(err, b"the file of cases", b"its name is too long");
-            File::Missing
+            say(err, b"the file of cases", "its name is too long");
+            None
         }
     }
 }
 
 // Opens the file whose name has `name` bytes at the start of `path`.
-fn open_named<R: Files, E: Print>(rt: &R, err: &E, path: &[u8], name: usize) -> File<R::File>
+fn open_named<R: Files, E: Print>(
+    rt: &R,
+    err: &E,
+    path: &[u8],
+    name: usize,
+) -> Option<Opened<R::File>>
     requires { name ≤ length path.now }
-    ensures { Named result path.now }
+    ensures { IfSome result (λ opened. IsPrefixLen opened.name path.now) }
 {
     let Ok(text) = str::from_utf8(&path[..name]) else {
-        complain(err, &path[..name], b"the name is not UTF-8");
-        return File::Missing;
+        say(err, &path[..name], "the name is not UTF-8");
+        return None;
     };
     match fs::open(rt, text) {
-        Ok(file) => File::Open { file, name },
+        Ok(file) => Some(Opened { file, name }),
         Err(error) => {
-            fail(err, &path[..name], error);
-            File::Missing
+            say(err, &path[..name], error);
+            None
         }
     }
 }

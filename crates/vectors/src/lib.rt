@@ -17,7 +17,6 @@ pub mod file;
 pub mod number;
 pub mod room;
 pub mod space;
-pub mod stream;
 
 // The parts of a case, and the answers of replays compared with the stored ones.
 pub mod call_answer;

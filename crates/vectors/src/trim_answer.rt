@@ -3,7 +3,7 @@ ghost use Rattle.std.specs.Prelude.{◌≡◌};
 ghost use Rattle.vectors.specs.TrimAnswer.{lent_at, same_answer};
 
 use crate::number::u32_at;
-use crate::room::holds_bytes;
+use crate::room::holds;
 use limits::Limits;
 use limits::read::u16_at;
 
@@ -29,31 +29,20 @@ impl Room {
 }
 
 // How many bytes of the buffer the case passes.
+#[tactic(auto, unfolding(crate::specs::TrimAnswer::lent_at))]
 pub fn lent_at(bytes: &[u8]) -> usize
     ensures { result ≡ lent_at bytes.now }
 {
-    let n = u32_at(bytes, 0);
-    if Room::BYTES < n {
-        return Room::BYTES;
-    }
-    n
+    u32_at(bytes, 0).min(Room::BYTES)
 }
 
 // Whether the code, the length written and the whole buffer are as stored; with an error `trimmed` is empty.
-pub fn same_answer<'a, 'b, 'c>(
-    code: u16,
-    written: usize,
-    room: &'a [u8],
-    bytes: &'b [u8],
-    trimmed: &'c [u8],
-) -> bool
+// What a call left is passed one by one, as the definition takes it: each kind of call leaves something else.
+#[tactic(auto, using(limits::proofs::BranchTests::tests), unfolding(crate::specs::TrimAnswer::same_answer))]
+pub fn same_answer(code: u16, written: usize, room: &[u8], bytes: &[u8], trimmed: &[u8]) -> bool
     ensures { result ≡ same_answer code written room.now bytes.now trimmed.now }
 {
-    if code as usize != u16_at(bytes, 4) {
-        return false;
-    }
-    if written != trimmed.len() {
-        return false;
-    }
-    holds_bytes(room, trimmed, Room::BLANK)
+    usize::from(code) == u16_at(bytes, 4)
+        && written == trimmed.len()
+        && holds(room, trimmed, Room::BLANK)
 }

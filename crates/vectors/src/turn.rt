@@ -1,10 +1,11 @@
 // A stored turn at a service: what is done and by whom, what is passed, and what is left.
 ghost use Rattle.std.specs.Prelude.{◌≡◌};
-ghost use Rattle.vectors.specs.Turn.{turn_kind_of, service_at, caller_at, lengths_at, set_at, bytes_at, numbers_at, tariff_at};
+ghost use Rattle.vectors.specs.Turn.{turn_kind_by, number_of, turn_kind_of, service_at, caller_at, lengths_at, set_at, bytes_at, numbers_at, tariff_at};
 
+use crate::bill_answer;
 use crate::number::u32_at;
 use bill_spec::tariff::Tariff;
-use limits::read::{byte_at, rest, u16_at};
+use limits::read::{byte_at, rest, u8_at};
 
 // The layout of a stored turn.
 #[derive(Drop)]
@@ -39,8 +40,8 @@ impl Room {
     pub const BLANK_WIDE: usize = 2863311530;
 }
 
-// What is done: the service is opened, the host sets a caller's number, or a call is made; Other is none of these.
-#[derive(Clone, Copy)]
+// What is done: the service is opened, the host sets a caller's number, or a call is made.
+#[derive(Clone, Copy, PartialEq, Eq)]
 pub enum TurnKind {
     Open,
     Set,
@@ -50,62 +51,73 @@ pub enum TurnKind {
     Handover,
     Replay,
     ReplayAcross,
-    Other,
 }
 
-// What turns are counted by: the number of each kind.
-#[derive(Drop)]
-pub struct Number;
+// A number of no kind of turn.
+#[derive(Clone, Copy, PartialEq, Eq)]
+pub struct UnknownTurn(pub u8);
 
-impl Number {
-    pub const OPEN: usize = 0;
+impl UnknownTurn {
+    // Such turns are counted by this number.
+    pub const NUMBER: usize = 8;
+}
 
-    pub const SET: usize = 1;
+impl TryFrom<u8> for TurnKind {
+    type Error = UnknownTurn;
 
-    pub const CHECK: usize = 2;
+    ghost try_from_gives = { λ number kind. kind ≡ turn_kind_by number };
 
-    pub const TRIM: usize = 3;
+    fn try_from(number: u8) -> Result<TurnKind, UnknownTurn> {
+        match number {
+            0 => Ok(TurnKind::Open),
+            1 => Ok(TurnKind::Set),
+            2 => Ok(TurnKind::Check),
+            3 => Ok(TurnKind::Trim),
+            4 => Ok(TurnKind::Bill),
+            5 => Ok(TurnKind::Handover),
+            6 => Ok(TurnKind::Replay),
+            7 => Ok(TurnKind::ReplayAcross),
+            _ => Err(UnknownTurn(number)),
+        }
+    }
+}
 
-    pub const BILL: usize = 4;
+// What turns of a kind are counted by.
+impl From<TurnKind> for usize {
+    ghost from_gives = { λ kind number. number ≡ number_of kind };
 
-    pub const HANDOVER: usize = 5;
-
-    pub const REPLAY: usize = 6;
-
-    pub const REPLAY_ACROSS: usize = 7;
-
-    pub const OTHER: usize = 8;
+    fn from(kind: TurnKind) -> usize {
+        match kind {
+            TurnKind::Open => 0,
+            TurnKind::Set => 1,
+            TurnKind::Check => 2,
+            TurnKind::Trim => 3,
+            TurnKind::Bill => 4,
+            TurnKind::Handover => 5,
+            TurnKind::Replay => 6,
+            TurnKind::ReplayAcross => 7,
+        }
+    }
 }
 
 // What the turn does.
-pub fn turn_kind_at(bytes: &[u8]) -> TurnKind
+#[tactic(auto, unfolding(crate::specs::Turn::turn_kind_of))]
+pub fn turn_kind_at(bytes: &[u8]) -> Result<TurnKind, UnknownTurn>
     ensures { result ≡ turn_kind_of bytes.now }
 {
-    match byte_at(bytes, 0) {
-        0 => TurnKind::Open,
-        1 => TurnKind::Set,
-        2 => TurnKind::Check,
-        3 => TurnKind::Trim,
-        4 => TurnKind::Bill,
-        5 => TurnKind::Handover,
-        6 => TurnKind::Replay,
-        7 => TurnKind::ReplayAcross,
-        _ => TurnKind::Other,
-    }
+    TurnKind::try_from(u8_at(bytes, 0))
 }
 
 // How many numbers of the service the turn passes: all but as many as are stored.
+#[tactic(auto, unfolding(crate::specs::Turn::service_at))]
 pub fn service_at(bytes: &[u8]) -> usize
     ensures { result ≡ service_at bytes.now }
 {
-    let missing = byte_at(bytes, 1);
-    if Stored::SERVICE <= missing {
-        return 0;
-    }
-    Stored::SERVICE - missing
+    Stored::SERVICE.saturating_sub(byte_at(bytes, 1))
 }
 
 // The caller of the turn.
+#[tactic(auto, unfolding(crate::specs::Turn::caller_at))]
 pub fn caller_at(bytes: &[u8]) -> usize
     ensures { result ≡ caller_at bytes.now }
 {
@@ -113,6 +125,7 @@ pub fn caller_at(bytes: &[u8]) -> usize
 }
 
 // The stored bytes from the lengths of the body's parts on.
+#[tactic(auto, unfolding(crate::specs::Turn::lengths_at))]
 pub fn lengths_at(bytes: &[u8]) -> &[u8]
     ensures { result.now ≡ lengths_at bytes.now }
 {
@@ -120,6 +133,7 @@ pub fn lengths_at(bytes: &[u8]) -> &[u8]
 }
 
 // The number that the host sets.
+#[tactic(auto, unfolding(crate::specs::Turn::set_at))]
 pub fn set_at(bytes: &[u8]) -> u32
     ensures { result ≡ set_at bytes.now }
 {
@@ -127,36 +141,25 @@ pub fn set_at(bytes: &[u8]) -> u32
 }
 
 // How many bytes of the buffer the turn passes.
+#[tactic(auto, unfolding(crate::specs::Turn::bytes_at))]
 pub fn bytes_at(bytes: &[u8]) -> usize
     ensures { result ≡ bytes_at bytes.now }
 {
-    let n = u32_at(bytes, 26);
-    if Room::BYTES < n {
-        return Room::BYTES;
-    }
-    n
+    u32_at(bytes, 26).min(Room::BYTES)
 }
 
 // How many numbers of the buffer the turn passes.
+#[tactic(auto, unfolding(crate::specs::Turn::numbers_at))]
 pub fn numbers_at(bytes: &[u8]) -> usize
     ensures { result ≡ numbers_at bytes.now }
 {
-    let n = u32_at(bytes, 30);
-    if Room::NUMBERS < n {
-        return Room::NUMBERS;
-    }
-    n
+    u32_at(bytes, 30).min(Room::NUMBERS)
 }
 
-// The tariff of the turn.
+// The tariff of the turn, stored as that of a bill is.
+#[tactic(auto, using(crate::proofs::TurnTariff::tariff_behind))]
 pub fn tariff_at(bytes: &[u8]) -> Tariff
     ensures { result ≡ tariff_at bytes.now }
 {
-    Tariff {
-        start: u16_at(bytes, 34) as u16,
-        step: u16_at(bytes, 36) as u16,
-        taken: u16_at(bytes, 38) as u16,
-        interference: u16_at(bytes, 40) as u16,
-        least: u16_at(bytes, 42) as u16,
-    }
+    bill_answer::tariff_at(rest(bytes, 34))
 }

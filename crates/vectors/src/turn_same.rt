@@ -1,144 +1,88 @@
 // What a turn left, compared with what is stored of it.
-ghost use Rattle.std.specs.Prelude.{◌≡◌, ◌+◌, ◌^◌, ◌<◌, ◌&&◌, drop};
-ghost use Rattle.vectors.specs.TurnSame.{same_longs, same_service, same_bytes, same_numbers, same_written, same_verdict, same_trimmed, same_bill, same_replay};
+ghost use Rattle.std.specs.Prelude.{◌≡◌};
+ghost use Rattle.vectors.specs.TurnSame.{same_longs_by, same_numbers_by, same_service, same_bytes, same_written, same_verdict, same_trimmed, same_bill, same_replay};
 
-use crate::number::u32_at;
-use crate::room::holds_bytes;
+use crate::number::{Wide, u32_at};
+use crate::room::holds;
 use crate::turn::Room;
-use limits::read::{part, u16_at};
+use limits::read::{part, rest, u16_at};
 
-// Whether these numbers are stored from `at` on, 32 bits each.
-fn same_longs<'a, 'b>(numbers: &'a [u32], bytes: &'b [u8], at: usize) -> bool
-    requires { at < 2 ^ 16 }
-    ensures { result ≡ same_longs numbers.now (drop at bytes.now) }
+// Whether these numbers are stored in front of `bytes`, 32 bits each.
+#[tactic(auto, using(crate::proofs::LongsSame::longs))]
+fn same_longs<T: Wide>(numbers: &[T], bytes: &[u8]) -> bool
+    ensures { result ≡ same_longs_by T.number numbers.now bytes.now }
 {
-    let mut i: usize = 0;
-    while i < numbers.len() {
-        if numbers[i] != u32_at(bytes, at + 4 * i) as u32 {
+    let mut stored = bytes;
+    for n in numbers {
+        if n.wide() != u32_at(stored, 0) {
             return false;
         }
-        i += 1;
-    }
-    true
-}
-
-// Whether these 64-bit numbers are stored from `at` on, 32 bits each.
-fn same_wide<'a, 'b>(numbers: &'a [usize], bytes: &'b [u8], at: usize) -> bool
-    requires { at < 2 ^ 16 }
-    ensures { result ≡ same_longs numbers.now (drop at bytes.now) }
-{
-    let mut i: usize = 0;
-    while i < numbers.len() {
-        if numbers[i] != u32_at(bytes, at + 4 * i) {
-            return false;
-        }
-        i += 1;
+        stored = rest(stored, 4);
     }
     true
 }
 
 // Whether the code and the whole service are as stored.
-pub fn same_service<'a, 'b>(code: u16, service: &'a [u32], bytes: &'b [u8]) -> bool
+#[tactic(auto, using(limits::proofs::BranchTests::tests), unfolding(crate::specs::TurnSame::same_service))]
+pub fn same_service(code: u16, service: &[u32], bytes: &[u8]) -> bool
     ensures { result ≡ same_service code service.now bytes.now }
 {
-    if code as usize != u16_at(bytes, 44) {
-        return false;
-    }
-    same_longs(service, bytes, 50)
+    usize::from(code) == u16_at(bytes, 44) && same_longs(service, rest(bytes, 50))
 }
 
 // Whether the whole buffer of bytes, of which the front was passed, is as stored.
-fn same_bytes<'a, 'b>(room: &'a [u8], bytes: &'b [u8]) -> bool
+#[tactic(auto, using(limits::proofs::BranchTests::tests), unfolding(crate::specs::TurnSame::same_bytes))]
+fn same_bytes(room: &[u8], bytes: &[u8]) -> bool
     ensures { result ≡ same_bytes room.now bytes.now }
 {
-    holds_bytes(room, part(bytes, 210, Room::BYTES), Room::BLANK)
-}
-
-// Whether the length written and the whole buffer of bytes are as stored.
-fn same_written<'a, 'b>(written: usize, room: &'a [u8], bytes: &'b [u8]) -> bool
-    ensures { result ≡ same_written written room.now bytes.now }
-{
-    if written != u32_at(bytes, 46) {
-        return false;
-    }
-    same_bytes(room, bytes)
+    holds(room, part(bytes, 210, Room::BYTES), Room::BLANK)
 }
 
 // Whether the whole buffer of numbers, of which the front was passed, is as stored.
-fn same_numbers<'a, 'b>(room: &'a [u32], bytes: &'b [u8]) -> bool
-    ensures { result ≡ same_numbers room.now bytes.now }
+#[tactic(auto, using(limits::proofs::BranchTests::tests), unfolding(crate::specs::TurnSame::same_numbers_by))]
+fn same_numbers<T: Wide>(room: &[T], bytes: &[u8]) -> bool
+    ensures { result ≡ same_numbers_by T.number room.now bytes.now }
 {
-    same_longs(room, bytes, 114)
+    same_longs(room, rest(bytes, 114))
+}
+
+// Whether the length written and the whole buffer of bytes are as stored.
+// What a call left is passed one by one, as the definitions take it: each kind of call leaves something else.
+#[tactic(auto, using(limits::proofs::BranchTests::tests), unfolding(crate::specs::TurnSame::same_written))]
+fn same_written(written: usize, room: &[u8], bytes: &[u8]) -> bool
+    ensures { result ≡ same_written written room.now bytes.now }
+{
+    written == u32_at(bytes, 46) && same_bytes(room, bytes)
 }
 
 // Whether a check left what is stored.
-pub fn same_verdict<'a, 'b, 'c>(
-    code: u16,
-    service: &'a [u32],
-    room: &'b [u8],
-    bytes: &'c [u8],
-) -> bool
+#[tactic(auto, using(limits::proofs::BranchTests::tests), unfolding(crate::specs::TurnSame::same_verdict))]
+pub fn same_verdict(code: u16, service: &[u32], room: &[u8], bytes: &[u8]) -> bool
     ensures { result ≡ same_verdict code service.now room.now bytes.now }
 {
-    if same_service(code, service, bytes) {
-        return same_bytes(room, bytes);
-    }
-    false
+    same_service(code, service, bytes) && same_bytes(room, bytes)
 }
 
 // Whether trimming left what is stored.
-pub fn same_trimmed<'a, 'b, 'c>(
-    code: u16,
-    service: &'a [u32],
-    written: usize,
-    room: &'b [u8],
-    bytes: &'c [u8],
-) -> bool
+#[tactic(auto, using(limits::proofs::BranchTests::tests), unfolding(crate::specs::TurnSame::same_trimmed))]
+pub fn same_trimmed(code: u16, service: &[u32], written: usize, room: &[u8], bytes: &[u8]) -> bool
     ensures { result ≡ same_trimmed code service.now written room.now bytes.now }
 {
-    if same_service(code, service, bytes) {
-        return same_written(written, room, bytes);
-    }
-    false
+    same_service(code, service, bytes) && same_written(written, room, bytes)
 }
 
 // Whether a bill left what is stored.
-pub fn same_bill<'a, 'b, 'c>(
-    code: u16,
-    service: &'a [u32],
-    room: &'b [u32],
-    bytes: &'c [u8],
-) -> bool
+#[tactic(auto, using(limits::proofs::BranchTests::tests), unfolding(crate::specs::TurnSame::same_bill))]
+pub fn same_bill(code: u16, service: &[u32], room: &[u32], bytes: &[u8]) -> bool
     ensures { result ≡ same_bill code service.now room.now bytes.now }
 {
-    if same_service(code, service, bytes) {
-        return same_numbers(room, bytes);
-    }
-    false
-}
-
-// Whether the table and the numbers of a replay are as stored.
-fn same_told<'a, 'b, 'c>(table: &'a [u8], room: &'b [usize], bytes: &'c [u8]) -> bool
-    ensures { result ≡ (same_bytes table.now bytes.now && same_numbers room.now bytes.now) }
-{
-    if same_bytes(table, bytes) {
-        return same_wide(room, bytes, 114);
-    }
-    false
+    same_service(code, service, bytes) && same_numbers(room, bytes)
 }
 
 // Whether a replay left what is stored.
-pub fn same_replay<'a, 'b, 'c, 'd>(
-    code: u16,
-    service: &'a [u32],
-    table: &'b [u8],
-    room: &'c [usize],
-    bytes: &'d [u8],
-) -> bool
+#[tactic(auto, using(limits::proofs::BranchTests::tests), unfolding(crate::specs::TurnSame::same_replay))]
+pub fn same_replay(code: u16, service: &[u32], table: &[u8], room: &[usize], bytes: &[u8]) -> bool
     ensures { result ≡ same_replay code service.now table.now room.now bytes.now }
 {
-    if same_service(code, service, bytes) {
-        return same_told(table, room, bytes);
-    }
-    false
+    same_service(code, service, bytes) && same_bytes(table, bytes) && same_numbers(room, bytes)
 }

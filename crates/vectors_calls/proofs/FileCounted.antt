@@ -1,7 +1,7 @@
 -- The calls of a file, case by case.
 use mathlib.Core.Path.{◌≡◌}
 use mathlib.Core.List.{List, ◌++◌}
-use Prim.Native.Nat.{ℕ, ◌-◌, ◌≤◌, ◌<◌}
+use Prim.Native.Nat.{ℕ, ◌+◌, ◌≤◌}
 use native.Mathlib.Omega.{arith}
 use lib.ListN.{length, take, drop, length-append, length-drop}
 use lib.Seq.{length-take-le}
@@ -18,22 +18,21 @@ use Rattle.vectors_calls.specs.declared.kind.Kind.{Kind}
 use Rattle.vectors_calls.specs.declared.kind.Kind.TheVariants.{Verdicts, Trims, Bills, Replays, Handovers, Across}
 
 -- a call more, of whatever kind
-pub running_call : (kind : Kind) (t r : Counters) (left : ℕ) (body s : List ℕ) → 0 < left → Running t left → Counted kind body s t r
-    → Running r (left - 1)
+pub running_call : (kind : Kind) (t r : Counters) (n : ℕ) (body s : List ℕ) → Running t n → Counted kind body s t r → Running r (n + 1)
 unfolding Counted
-running_call Verdicts t r left body s h f c = running_more t r left c.code (same_record c.code c.after s) h f c.counted
-running_call Trims t r left body s h f c =
-    running_more t r left c.code (Trims.same_answer c.code c.written (c.after ++ drop (Trims.lent_at (drop 4 s)) Trims.room)
-    (drop 4 s) (second_on s body)) h f c.counted
-running_call Bills t r left body s h f c =
-    running_more t r left c.code (Bills.same_answer c.code (c.after ++ drop (Bills.lent_at s) Bills.room) s) h f c.counted
-running_call Replays t r left body s h f c =
-    running_more t r left c.code (same_answer c.code (c.after ++ drop (replay_table s) blank_table)
-    (c.told ++ drop (replay_numbers s) blank_numbers) (drop 20 s) (fourth_on s body)) h f c.counted
-running_call Handovers t r left body s h f c = running_more t r left c.code (same_code c.code s) h f c.counted
-running_call Across t r left body s h f c =
-    running_more t r left c.code (same_answer c.code (c.after ++ drop (across_table s) blank_table)
-    (c.told ++ drop (across_numbers s) blank_numbers) (drop 32 s) (seventh_on s body)) h f c.counted
+running_call Verdicts t r n body s f c = running_more t r n c.code (same_record c.code c.after s) f c.counted
+running_call Trims t r n body s f c =
+    running_more t r n c.code (Trims.same_answer c.code c.written (c.after ++ drop (Trims.lent_at (drop 4 s)) Trims.room)
+    (drop 4 s) (second_on s body)) f c.counted
+running_call Bills t r n body s f c =
+    running_more t r n c.code (Bills.same_answer c.code (c.after ++ drop (Bills.lent_at s) Bills.room) s) f c.counted
+running_call Replays t r n body s f c =
+    running_more t r n c.code (same_answer c.code (c.after ++ drop (replay_table s) blank_table)
+    (c.told ++ drop (replay_numbers s) blank_numbers) (drop 20 s) (fourth_on s body)) f c.counted
+running_call Handovers t r n body s f c = running_more t r n c.code (same_code c.code s) f c.counted
+running_call Across t r n body s f c =
+    running_more t r n c.code (same_answer c.code (c.after ++ drop (across_table s) blank_table)
+    (c.told ++ drop (across_numbers s) blank_numbers) (drop 32 s) (seventh_on s body)) f c.counted
 
 -- the tail of a case is a part of the room for the longest
 tail_within : (kind : Kind) → tail_of kind ≤ 118

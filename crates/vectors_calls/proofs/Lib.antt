@@ -1,5 +1,4 @@
 pub mod Billed
-pub mod ByKind
 pub mod FileCounted
 pub mod HandedOver
 pub mod Replayed

@@ -5,6 +5,7 @@ use mathlib.Core.List.{List, ◌++◌}
 use Prim.Native.Nat.{ℕ}
 use lib.ListN.{take, drop}
 use Rattle.handover_replay.specs.Promise.{Written}
+use Rattle.vectors.proofs.LentFront.{table_fits, table_front, table_back, numbers_fit, numbers_front, numbers_back}
 use Rattle.vectors.specs.Counters.{with_case}
 use Rattle.vectors.specs.declared.counters.Counters.{Counters}
 use Rattle.vectors.specs.Parts.{first_in, second_in, third_in, fourth_in, fifth_in, sixth_in, seventh_on}
@@ -34,3 +35,5 @@ module _ (s body table numbers : List ℕ) (n m : ℕ) (d : n ≡ across_table s
         called = rw (← d, ← e, ← p, ← q) w;
         counted = rw (← d, ← e, ← p, ← q, ← z, ← k, ← a) g;
       }
+
+pub ruleset with_across_branches = (table_fits, table_front, table_back, numbers_fit, numbers_front, numbers_back, across_counted)

@@ -1,12 +1,12 @@
 -- Which calls a file holds.
-use Rattle.std.specs.Prelude.{Bool, cond, List, [], ◌∷◌, ℕ, length, take}
-use Rattle.vectors.specs.Room.{holds}
+use Rattle.std.specs.Prelude.{Bool, cond, List, [], ◌∷◌, ℕ, nat_eq}
+use Rattle.std.specs.List.{starts_with}
 use Rattle.vectors_calls.specs.declared.kind.Kind.{Kind}
 use Rattle.vectors_calls.specs.declared.kind.Kind.TheVariants.{Verdicts, Trims, Bills, Replays, Handovers, Across}
 
 -- the name begins with this word
-unfoldable pub begins : List ℕ → List ℕ → Bool
-begins name word = holds (take (length word) name) word 0
+abbrev pub begins : List ℕ → List ℕ → Bool
+begins name word = starts_with nat_eq name word
 
 -- the bytes of "trim"
 abbrev pub trim_word : List ℕ

@@ -9,7 +9,8 @@ use vectors::bill_answer::{Room, billed_at, lent_at, same_answer, tariff_at};
 use vectors::counters::{Counters, with_case};
 
 // Makes the stored call.
-fn bill_stored<'a, 'b, 'c>(image: &'a [u8], bytes: &'b [u8], answer: &'c mut [u32]) -> u16
+#[tactic(auto, using(crate::proofs::Billed::call_stored, limits::proofs::BranchTests::tests))]
+fn bill_stored(image: &[u8], bytes: &[u8], answer: &mut [u32]) -> u16
     ensures { Written image.now (tariff_at bytes.now) (billed_at bytes.now) answer.old result
         answer.new }
 {
@@ -17,6 +18,7 @@ fn bill_stored<'a, 'b, 'c>(image: &'a [u8], bytes: &'b [u8], answer: &'c mut [u3
 }
 
 // The buffer for the bill's numbers before the call.
+#[tactic(auto, unfolding(vectors::specs::BillAnswer::room))]
 fn blank_room() -> [u32; Room::NUMBERS]
     ensures { result ≡ room }
 {
@@ -24,12 +26,13 @@ fn blank_room() -> [u32; Room::NUMBERS]
 }
 
 // The counters with one bill more, by its code, and whether it is the stored one.
-pub fn with_bill<'a, 'b>(counters: Counters, image: &'a [u8], bytes: &'b [u8]) -> Counters
+#[tactic(auto, using(crate::proofs::Billed::with_bill_branches, limits::proofs::BranchTests::tests))]
+pub fn with_bill(counters: Counters, image: &[u8], bytes: &[u8]) -> Counters
     ensures { Billed image.now bytes.now counters result }
 {
     let mut lent = blank_room();
     let n = lent_at(bytes);
     let code = bill_stored(image, bytes, &mut lent[..n]);
     let same = same_answer(code, &lent, bytes);
-    with_case(counters, code as usize, same)
+    with_case(counters, usize::from(code), same)
 }

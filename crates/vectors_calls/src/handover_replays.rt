@@ -8,34 +8,33 @@ use handover_replay::entry::replay_handover;
 use limits::read::rest;
 use vectors::call_answer::{Room, blank_numbers, blank_table, lent_at, same_answer};
 use vectors::counters::{Counters, with_case};
-use vectors::parts::{fifth_in, first_in, fourth_in, second_in, seventh_on, sixth_in, third_in};
+use vectors::parts::{part_in, part_on};
 
 // Makes the stored call.
-fn across_stored<'a, 'b, 'c, 'd>(
-    body: &'a [u8],
-    bytes: &'b [u8],
-    table: &'c mut [u8],
-    answer: &'d mut [usize],
-) -> u16
+#[tactic(auto, using(crate::proofs::ReplayedAcross::call_stored, limits::proofs::BranchTests::tests))]
+fn across_stored(body: &[u8], bytes: &[u8], table: &mut [u8], answer: &mut [usize]) -> u16
     ensures { Written (first_in bytes.now body.now) (second_in bytes.now body.now)
         (third_in bytes.now body.now) (fourth_in bytes.now body.now)
         (fifth_in bytes.now body.now) (sixth_in bytes.now body.now)
         table.old answer.old result table.new answer.new }
 {
     replay_handover(
-        first_in(body, bytes),
-        second_in(body, bytes),
-        third_in(body, bytes),
-        fourth_in(body, bytes),
-        fifth_in(body, bytes),
-        sixth_in(body, bytes),
+        part_in(body, bytes, 0),
+        part_in(body, bytes, 1),
+        part_in(body, bytes, 2),
+        part_in(body, bytes, 3),
+        part_in(body, bytes, 4),
+        part_in(body, bytes, 5),
         table,
         answer,
     )
 }
 
 // The counters with one replay more, by its code, and whether it is the stored one.
-pub fn with_across<'a, 'b>(counters: Counters, body: &'a [u8], bytes: &'b [u8]) -> Counters
+// It stays apart from `with_replay`: one function for both would take either call as a closure, with its promise as a clause.
+// Counters and both parts of a case are passed one by one: a struct of them would be made and taken apart for each case.
+#[tactic(auto, using(crate::proofs::ReplayedAcross::with_across_branches))]
+pub fn with_across(counters: Counters, body: &[u8], bytes: &[u8]) -> Counters
     ensures { ReplayedAcross body.now bytes.now counters result }
 {
     let mut table = blank_table();
@@ -48,7 +47,7 @@ pub fn with_across<'a, 'b>(counters: Counters, body: &'a [u8], bytes: &'b [u8]) 
         &table,
         &numbers,
         rest(bytes, 32),
-        seventh_on(body, bytes),
+        part_on(body, bytes, 6),
     );
-    with_case(counters, code as usize, same)
+    with_case(counters, usize::from(code), same)
 }

@@ -1,4 +1,5 @@
 // The cases of a file.
+ghost use Rattle.std.specs.Prelude.{IfOk, IfErr};
 ghost use Rattle.vectors.specs.CasesCounted.{FromCases};
 ghost use Rattle.vectors_calls.specs.Judge.{Counted};
 
@@ -10,13 +11,16 @@ use crate::replays::with_replay;
 use crate::trims::with_trimmed;
 use crate::verdicts::with_verdict;
 use std::io::Read;
-use vectors::case::{Next, read_case};
-use vectors::counters::{Counters, Judged, no_case};
-use vectors::end::End;
+use vectors::case::read_case;
+use vectors::counters::{Counters, Most, no_case};
+use vectors::end::{Fault, Stop};
 use vectors::space::space_for_body;
 
 // The counters with one call more, by the code returned, and whether the answer is the stored one.
-fn with_call<'a, 'b>(kind: Kind, counters: Counters, body: &'a [u8], bytes: &'b [u8]) -> Counters
+// A closure for each kind would need one clause for all six promises; here each arm has its own, in `Counted`.
+// Counters and both parts of a case are passed one by one: a struct of them would be made and taken apart for each case.
+#[tactic(auto, unfolding(crate::specs::Judge::Counted))]
+fn with_call(kind: Kind, counters: Counters, body: &[u8], bytes: &[u8]) -> Counters
     ensures { Counted kind body.now bytes.now counters result }
 {
     match kind {
@@ -30,28 +34,26 @@ fn with_call<'a, 'b>(kind: Kind, counters: Counters, body: &'a [u8], bytes: &'b 
 }
 
 // Judges the cases of a file of this kind.
-pub fn judge_all<R: Read>(reader: &mut R, kind: Kind) -> Judged
-    ensures { FromCases result.tally }
+pub fn judge_all<R: Read>(reader: &mut R, kind: Kind) -> Result<Counters, Stop>
+    ensures judged { IfOk result FromCases }
+    ensures stopped { IfErr result (λ stop. FromCases stop.tally) }
 {
     let mut space = space_for_body();
     let mut stored = [0u8; Tail::MOST];
     let tail = tail_of(kind);
     let mut tally = no_case();
     // One case more than is judged shows that there are too many.
-    let mut left = Judged::MOST + 1;
-    while 0 < left {
+    for _ in 0..=Most::CASES {
         match read_case(reader, &mut space, &mut stored[..tail]) {
-            Next::Case(n) => {
+            Ok(Some(n)) => {
                 tally = with_call(kind, tally, &space[..n], &stored[..tail]);
-                left -= 1;
             }
-            Next::Over(end) => {
-                return Judged { end, tally };
-            }
+            Ok(None) => return Ok(tally),
+            Err(fault) => return Err(Stop { fault, tally }),
         }
     }
-    Judged {
-        end: End::Many,
+    Err(Stop {
+        fault: Fault::Many,
         tally,
-    }
+    })
 }

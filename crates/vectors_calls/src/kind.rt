@@ -1,14 +1,12 @@
 // Which calls a file holds, by the front of its name.
 ghost use Rattle.std.specs.Prelude.{◌≡◌};
-ghost use Rattle.vectors_calls.specs.Kind.{begins, kind_of, tail_of};
+ghost use Rattle.vectors_calls.specs.Kind.{kind_of, tail_of};
 
-use limits::read::part;
 use vectors::bill_answer::Stored as BillStored;
-use vectors::room::holds_bytes;
 use vectors::trim_answer::Stored as TrimStored;
 
 // The calls of a file.
-#[derive(Clone, Copy)]
+#[derive(Clone, Copy, PartialEq, Eq)]
 pub enum Kind {
     Verdicts,
     Trims,
@@ -47,35 +45,31 @@ impl Tail {
     pub const MOST: usize = Self::ACROSS;
 }
 
-fn begins_with<'a, 'b>(name: &'a [u8], word: &'b [u8]) -> bool
-    ensures { result ≡ begins name.now word.now }
-{
-    holds_bytes(part(name, 0, word.len()), word, 0)
-}
-
 // The calls of a file with this name.
+#[tactic(auto, unfolding(crate::specs::Kind::kind_of))]
 pub fn kind_of(name: &[u8]) -> Kind
     ensures { result ≡ kind_of name.now }
 {
-    if begins_with(name, b"trim") {
+    if name.starts_with(b"trim") {
         return Kind::Trims;
     }
-    if begins_with(name, b"bills") {
+    if name.starts_with(b"bills") {
         return Kind::Bills;
     }
-    if begins_with(name, b"replay") {
+    if name.starts_with(b"replay") {
         return Kind::Replays;
     }
-    if begins_with(name, b"handover") {
+    if name.starts_with(b"handover") {
         return Kind::Handovers;
     }
-    if begins_with(name, b"across") {
+    if name.starts_with(b"across") {
         return Kind::Across;
     }
     Kind::Verdicts
 }
 
 // The length of each case's tail.
+#[tactic(auto, unfolding(crate::specs::Kind::tail_of))]
 pub fn tail_of(kind: Kind) -> usize
     ensures { result ≡ tail_of kind }
 {

@@ -15,24 +15,20 @@ use judge::judge_all;
 use kind::kind_of;
 use std::io::Read;
 use std::rt::{Env, Files};
-use vectors::complaint::passes;
-use vectors::counters_line::write_line;
-use vectors::file::{File, Name, has_argument, open_argument};
+use vectors::complaint::{passed, say};
+use vectors::file::{Name, Opened, has_argument, open_argument};
 
+// Streams, name and file are passed one by one: they have unlike owners, and meet in this call alone.
 fn judge_file<W: Print, E: Print, F: Read>(out: &W, err: &E, path: &[u8], file: &mut F) {
-    let judged = judge_all(file, kind_of(path));
-    let tally = judged.tally;
-    let end = judged.end;
-    if passes(err, path, end, tally.cases) {
-        write_line(out, path, tally);
+    if let Some(tally) = passed(err, path, judge_all(file, kind_of(path))) {
+        say(out, path, tally);
     }
 }
 
 fn judge_argument<R: Env + Files + Print, E: Print>(rt: &R, err: &E, number: usize) {
     let mut path = [0u8; Name::BYTES];
-    match open_argument(rt, err, number, &mut path) {
-        File::Open { mut file, name } => judge_file(rt, err, &path[..name], &mut file),
-        File::Missing => {}
+    if let Some(Opened { mut file, name }) = open_argument(rt, err, number, &mut path) {
+        judge_file(rt, err, &path[..name], &mut file);
     }
 }
 

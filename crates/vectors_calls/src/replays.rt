@@ -7,30 +7,28 @@ use limits::read::rest;
 use replay::entry::replay_trace;
 use vectors::call_answer::{Room, blank_numbers, blank_table, lent_at, same_answer};
 use vectors::counters::{Counters, with_case};
-use vectors::parts::{first_in, fourth_on, second_in, third_in};
+use vectors::parts::{part_in, part_on};
 
 // Makes the stored call.
-fn replay_stored<'a, 'b, 'c, 'd>(
-    body: &'a [u8],
-    bytes: &'b [u8],
-    table: &'c mut [u8],
-    answer: &'d mut [usize],
-) -> u16
+#[tactic(auto, using(crate::proofs::Replayed::call_stored, limits::proofs::BranchTests::tests))]
+fn replay_stored(body: &[u8], bytes: &[u8], table: &mut [u8], answer: &mut [usize]) -> u16
     ensures { Written (first_in bytes.now body.now) (second_in bytes.now body.now)
         (third_in bytes.now body.now) table.old answer.old result
         table.new answer.new }
 {
     replay_trace(
-        first_in(body, bytes),
-        second_in(body, bytes),
-        third_in(body, bytes),
+        part_in(body, bytes, 0),
+        part_in(body, bytes, 1),
+        part_in(body, bytes, 2),
         table,
         answer,
     )
 }
 
 // The counters with one replay more, by its code, and whether it is the stored one.
-pub fn with_replay<'a, 'b>(counters: Counters, body: &'a [u8], bytes: &'b [u8]) -> Counters
+// Counters and both parts of a case are passed one by one: a struct of them would be made and taken apart for each case.
+#[tactic(auto, using(crate::proofs::Replayed::with_replay_branches))]
+pub fn with_replay(counters: Counters, body: &[u8], bytes: &[u8]) -> Counters
     ensures { Replayed body.now bytes.now counters result }
 {
     let mut table = blank_table();
@@ -43,7 +41,7 @@ pub fn with_replay<'a, 'b>(counters: Counters, body: &'a [u8], bytes: &'b [u8]) 
         &table,
         &numbers,
         rest(bytes, 20),
-        fourth_on(body, bytes),
+        part_on(body, bytes, 3),
     );
-    with_case(counters, code as usize, same)
+    with_case(counters, usize::from(code), same)
 }

@@ -6,7 +6,7 @@ ghost use Rattle.vectors_calls.specs.VerdictAnswer.{room, is_framed, same_record
 use checker::entry::check_image;
 use limits::read::{part, rest, u16_at};
 use vectors::counters::{Counters, with_case};
-use vectors::room::holds_bytes;
+use vectors::room::holds;
 
 // The buffer for the record of the verdict.
 #[derive(Drop)]
@@ -21,6 +21,7 @@ impl Room {
 }
 
 // The buffer before the call.
+#[tactic(auto, unfolding(crate::specs::VerdictAnswer::room))]
 fn blank_room() -> [u8; Room::BYTES]
     ensures { result ≡ room }
 {
@@ -28,31 +29,30 @@ fn blank_room() -> [u8; Room::BYTES]
 }
 
 // Whether the buffer begins with the frame of a verdict: its length, 20, and its kind, 7.
+#[tactic(auto, using(limits::proofs::BranchTests::tests), unfolding(crate::specs::VerdictAnswer::is_framed))]
 fn is_framed(room: &[u8]) -> bool
     ensures { result ≡ is_framed room.now }
 {
-    holds_bytes(part(room, 0, 4), b"\x14\x00\x07\x00", 0)
+    holds(part(room, 0, 4), b"\x14\x00\x07\x00", 0)
 }
 
 // Whether the code is the stored one and the buffer holds the record of the stored numbers, and behind it what stood there before.
-fn same_record<'a, 'b>(code: u16, room: &'a [u8], bytes: &'b [u8]) -> bool
+#[tactic(auto, using(limits::proofs::BranchTests::tests), unfolding(crate::specs::VerdictAnswer::same_record))]
+fn same_record(code: u16, room: &[u8], bytes: &[u8]) -> bool
     ensures { result ≡ same_record code room.now bytes.now }
 {
-    if code as usize != u16_at(bytes, 0) {
-        return false;
-    }
-    if is_framed(room) {
-        return holds_bytes(rest(room, 4), bytes, Room::BLANK);
-    }
-    false
+    usize::from(code) == u16_at(bytes, 0)
+        && is_framed(room)
+        && holds(rest(room, 4), bytes, Room::BLANK)
 }
 
 // The counters with one verdict more, by its code, and whether it is the stored one.
-pub fn with_verdict<'a, 'b>(counters: Counters, image: &'a [u8], bytes: &'b [u8]) -> Counters
+#[tactic(auto, using(crate::proofs::VerdictBranches::verdict_counted, limits::proofs::BranchTests::tests))]
+pub fn with_verdict(counters: Counters, image: &[u8], bytes: &[u8]) -> Counters
     ensures { Checked image.now bytes.now counters result }
 {
     let mut room = blank_room();
     let code = check_image(image, &mut room);
     let same = same_record(code, &room, bytes);
-    with_case(counters, code as usize, same)
+    with_case(counters, usize::from(code), same)
 }

@@ -1,7 +1,7 @@
 -- The tally of a file, case by case.
 use mathlib.Core.Path.{◌≡◌}
 use mathlib.Core.List.{List}
-use Prim.Native.Nat.{ℕ, ◌-◌, ◌<◌}
+use Prim.Native.Nat.{ℕ, ◌+◌}
 use lib.ListN.{drop}
 use Rattle.limits.specs.Numbers.{le16}
 use Rattle.formula.specs.Reader.{reading_of}
@@ -10,11 +10,10 @@ use Rattle.vectors.proofs.CounterFacts.{Running, running_none, running_more, run
 use Rattle.vectors_formulas.specs.Answer.{kind_of, is_answer}
 use Rattle.vectors_formulas.specs.Judge.{counts_at, with_formula}
 
-pub running_formula : (t q : Counters) (left : ℕ) (body s : List ℕ) → 0 < left → Running t left → q ≡ with_formula t body s
-    → Running q (left - 1)
+pub running_formula : (t q : Counters) (n : ℕ) (body s : List ℕ) → Running t n → q ≡ with_formula t body s → Running q (n + 1)
 unfolding with_formula
-running_formula t q left body s h f e =
-    running_more t q left (kind_of (reading_of body (counts_at s)))
-    (is_answer (reading_of body (counts_at s)) (le16 (drop 4 s)) (le16 (drop 6 s))) h f e
+running_formula t q n body s f e =
+    running_more t q n (kind_of (reading_of body (counts_at s)))
+    (is_answer (reading_of body (counts_at s)) (le16 (drop 4 s)) (le16 (drop 6 s))) f e
 
 pub ruleset judge_all_branches = (running_none, running_formula, running_over)

@@ -1,16 +1,16 @@
 // The cases of the file: a formula as the body; as the tail threads, words, registers and the range (a byte each), the result and the sort
 // (16 bits each).
-ghost use Rattle.std.specs.Prelude.{◌≡◌};
+ghost use Rattle.std.specs.Prelude.{◌≡◌, IfOk, IfErr};
 ghost use Rattle.vectors.specs.CasesCounted.{FromCases};
 ghost use Rattle.vectors_formulas.specs.Judge.{counts_at, with_formula};
 
 use crate::answer::{is_answer, kind_of};
 use formula::reader::{Counts, read_formula};
-use limits::read::{byte_at, u16_at};
+use limits::read::{u8_at, u16_at};
 use std::io::Read;
-use vectors::case::{Next, read_case};
-use vectors::counters::{Counters, Judged, no_case, with_case};
-use vectors::end::End;
+use vectors::case::read_case;
+use vectors::counters::{Counters, Most, no_case, with_case};
+use vectors::end::{Fault, Stop};
 
 // The length of a tail.
 #[derive(Drop)]
@@ -24,19 +24,21 @@ impl Stored {
 }
 
 // The numbers of threads, words, registers and values in a tail.
+#[tactic(auto, unfolding(crate::specs::Judge::counts_at))]
 fn counts_at(bytes: &[u8]) -> Counts
     ensures { result ≡ counts_at bytes.now }
 {
     Counts {
-        threads: byte_at(bytes, 0) as u8,
-        words: byte_at(bytes, 1) as u8,
-        registers: byte_at(bytes, 2) as u8,
-        values: byte_at(bytes, 3) as u8,
+        threads: u8_at(bytes, 0),
+        words: u8_at(bytes, 1),
+        registers: u8_at(bytes, 2),
+        values: u8_at(bytes, 3),
     }
 }
 
 // The counters with one formula more, by its reading, and whether that is the stored one.
-fn with_formula<'a, 'b>(counters: Counters, body: &'a [u8], stored: &'b [u8]) -> Counters
+#[tactic(auto, using(crate::proofs::AnswerBranches::formula_counted, limits::proofs::BranchTests::tests))]
+fn with_formula(counters: Counters, body: &[u8], stored: &[u8]) -> Counters
     ensures { result ≡ with_formula counters body.now stored.now }
 {
     let reading = read_formula(body, counts_at(stored));
@@ -45,27 +47,25 @@ fn with_formula<'a, 'b>(counters: Counters, body: &'a [u8], stored: &'b [u8]) ->
 }
 
 // Judges the cases of a file.
-pub fn judge_all<R: Read>(reader: &mut R) -> Judged
-    ensures { FromCases result.tally }
+pub fn judge_all<R: Read>(reader: &mut R) -> Result<Counters, Stop>
+    ensures judged { IfOk result FromCases }
+    ensures stopped { IfErr result (λ stop. FromCases stop.tally) }
 {
     let mut space = [0u8; Stored::SPACE];
     let mut stored = [0u8; Stored::BYTES];
     let mut tally = no_case();
     // One case more than is judged shows that there are too many.
-    let mut left = Judged::MOST + 1;
-    while 0 < left {
+    for _ in 0..=Most::CASES {
         match read_case(reader, &mut space, &mut stored) {
-            Next::Case(n) => {
+            Ok(Some(n)) => {
                 tally = with_formula(tally, &space[..n], &stored);
-                left -= 1;
             }
-            Next::Over(end) => {
-                return Judged { end, tally };
-            }
+            Ok(None) => return Ok(tally),
+            Err(fault) => return Err(Stop { fault, tally }),
         }
     }
-    Judged {
-        end: End::Many,
+    Err(Stop {
+        fault: Fault::Many,
         tally,
-    }
+    })
 }

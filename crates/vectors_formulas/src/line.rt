@@ -1,25 +1,26 @@
 // The line that the program writes.
 use formula::code::Place;
 use formula::reader::Fault;
+use std::fmt;
 use vectors::counters::Counters;
-use vectors::counters_line::{write_count, write_differences};
+use vectors::counters_line::Differences;
 
-// Writes how many formulas have each sort or fault, and how many readings differ.
-pub fn write_line<W: Print>(out: &W, counters: Counters) {
-    write_count(out, counters.cases, b" cases: ");
-    write_count(out, counters.kinds[Place::VALUE as usize], b" values, ");
-    write_count(out, counters.kinds[Place::TEST as usize], b" tests, ");
-    write_count(
-        out,
-        counters.kinds[Place::INTERVAL as usize],
-        b" intervals, ",
-    );
-    write_count(
-        out,
-        counters.kinds[Place::ASSERTION as usize],
-        b" assertions, ",
-    );
-    write_count(out, counters.kinds[Fault::RANGE], b" of fault 6, ");
-    write_count(out, counters.kinds[Fault::MALFORMED], b" of fault 7; ");
-    write_differences(out, counters);
+// How many formulas have each sort or fault, and how many readings differ.
+#[derive(Clone, Copy)]
+pub struct Line {
+    pub tally: Counters,
+}
+
+impl fmt::Display for Line {
+    fn fmt<W: fmt::Write>(&self, f: &mut fmt::Formatter<W>) -> fmt::Result {
+        let kinds = &self.tally.kinds;
+        write!(f, "{} cases: ", self.tally.cases)?;
+        write!(f, "{} values, ", kinds[Place::VALUE as usize])?;
+        write!(f, "{} tests, ", kinds[Place::TEST as usize])?;
+        write!(f, "{} intervals, ", kinds[Place::INTERVAL as usize])?;
+        write!(f, "{} assertions, ", kinds[Place::ASSERTION as usize])?;
+        write!(f, "{} of fault 6, ", kinds[usize::from(Fault::Range)])?;
+        write!(f, "{} of fault 7; ", kinds[usize::from(Fault::Malformed)])?;
+        write!(f, "{}", Differences::from(self.tally))
+    }
 }

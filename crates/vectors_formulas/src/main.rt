@@ -7,25 +7,23 @@ mod judge;
 mod line;
 
 use judge::judge_all;
-use line::write_line;
+use line::Line;
 use std::io::Read;
-use vectors::complaint::passes;
-use vectors::file::{File, Name, open_argument};
+use vectors::complaint::passed;
+use vectors::file::{Name, Opened, open_argument};
 
+// Streams, name and file are passed one by one: they have unlike owners, and meet in this call alone.
 fn judge_file<W: Print, E: Print, F: Read>(out: &W, err: &E, path: &[u8], file: &mut F) {
-    let judged = judge_all(file);
-    let tally = judged.tally;
-    let end = judged.end;
-    if passes(err, path, end, tally.cases) {
-        write_line(out, tally);
+    if let Some(tally) = passed(err, path, judge_all(file)) {
+        // Where standard output takes no more, there is nothing left to tell.
+        let _ = out.println(Line { tally });
     }
 }
 
 fn main(rt: HostRuntime) {
     let err = rt.stderr();
     let mut path = [0u8; Name::BYTES];
-    match open_argument(&rt, &err, 1, &mut path) {
-        File::Open { mut file, name } => judge_file(&rt, &err, &path[..name], &mut file),
-        File::Missing => {}
+    if let Some(Opened { mut file, name }) = open_argument(&rt, &err, 1, &mut path) {
+        judge_file(&rt, &err, &path[..name], &mut file);
     }
 }

@@ -1,8 +1,9 @@
 -- The turns of a file, one by one.
 use mathlib.Core.Path.{◌≡◌, refl, sym}
+use Rattle.std.proofs.Common.{Result, Ok, Err}
 use mathlib.Core.Bool.{Bool, false}
 use mathlib.Core.List.{List, ◌++◌}
-use Prim.Native.Nat.{ℕ, ◌-◌, ◌≤◌, ◌<◌}
+use Prim.Native.Nat.{ℕ, ◌+◌, ◌≤◌}
 use native.Mathlib.Omega.{arith}
 use lib.ListN.{length, take, drop, length-append, length-drop}
 use lib.Seq.{length-take-le}
@@ -15,7 +16,8 @@ use Rattle.vectors.specs.declared.counters.Counters.{Counters}
 use Rattle.vectors.proofs.CounterFacts.{Running, running_none, running_more, running_over}
 use Rattle.vectors.specs.Parts.{first_in, second_in, third_in, fourth_in, fifth_in, sixth_on}
 use Rattle.vectors.specs.declared.turn.TurnKind.{TurnKind}
-use Rattle.vectors.specs.declared.turn.TurnKind.TheVariants.{Open, Set, Check, Trim, Bill, Handover, Replay, ReplayAcross, Other}
+use Rattle.vectors.specs.declared.turn.TurnKind.TheVariants.{Open, Set, Check, Trim, Bill, Handover, Replay, ReplayAcross}
+use Rattle.vectors.specs.declared.turn.UnknownTurn.{UnknownTurn}
 use Rattle.vectors.specs.Turn.{most_bytes, most_numbers, bytes, numbers, turn_kind_of, service_at, caller_at, lengths_at, set_at, bytes_at, numbers_at, tariff_at}
 use Rattle.vectors.specs.TurnSame.{same_service, same_verdict, same_trimmed, same_bill, same_replay}
 use Rattle.vectors_service.specs.Judge.{number_set, Opened, Changed, Checked, Trimmed, Billed, HandedOver, Replayed, ReplayedAcross, Counted, opened, changed, checked, trimmed, billed, handed, replayed, across, other}
@@ -161,33 +163,33 @@ changed_counted service s left t u c n same d m l y g = record { changed = rw (�
 pub ruleset lending = (bytes_fit, bytes_front, bytes_back, numbers_fit, numbers_front, numbers_back)
 
 -- by what is done
-module _ (service body s left : List ℕ) (t u : Counters) (d : TurnKind) (e : d ≡ turn_kind_of s) where
-  pub turn_opened : d ≡ Open → Opened service body s t left u → Counted service body s t left u
+module _ (service body s left : List ℕ) (t u : Counters) (d : Result TurnKind UnknownTurn) (e : d ≡ turn_kind_of s) where
+  pub turn_opened : d ≡ Ok Open → Opened service body s t left u → Counted service body s t left u
   turn_opened h c = opened (rw (← e) h) c
 
-  pub turn_changed : d ≡ Set → Changed service s t left u → Counted service body s t left u
+  pub turn_changed : d ≡ Ok Set → Changed service s t left u → Counted service body s t left u
   turn_changed h c = changed (rw (← e) h) c
 
-  pub turn_checked : d ≡ Check → Checked service body s t u → Counted service body s t service u
+  pub turn_checked : d ≡ Ok Check → Checked service body s t u → Counted service body s t service u
   turn_checked h c = checked (rw (← e) h) refl c
 
-  pub turn_trimmed : d ≡ Trim → Trimmed service body s t u → Counted service body s t service u
+  pub turn_trimmed : d ≡ Ok Trim → Trimmed service body s t u → Counted service body s t service u
   turn_trimmed h c = trimmed (rw (← e) h) refl c
 
-  pub turn_billed : d ≡ Bill → Billed service body s t left u → Counted service body s t left u
+  pub turn_billed : d ≡ Ok Bill → Billed service body s t left u → Counted service body s t left u
   turn_billed h c = billed (rw (← e) h) c
 
-  pub turn_handed : d ≡ Handover → HandedOver service body s t u → Counted service body s t service u
+  pub turn_handed : d ≡ Ok Handover → HandedOver service body s t u → Counted service body s t service u
   turn_handed h c = handed (rw (← e) h) refl c
 
-  pub turn_replayed : d ≡ Replay → Replayed service body s t u → Counted service body s t service u
+  pub turn_replayed : d ≡ Ok Replay → Replayed service body s t u → Counted service body s t service u
   turn_replayed h c = replayed (rw (← e) h) refl c
 
-  pub turn_across : d ≡ ReplayAcross → ReplayedAcross service body s t u → Counted service body s t service u
+  pub turn_across : d ≡ Ok ReplayAcross → ReplayedAcross service body s t u → Counted service body s t service u
   turn_across h c = across (rw (← e) h) refl c
 
-  pub turn_other : d ≡ Other → u ≡ with_case t 8 false → Counted service body s t service u
-  turn_other h c = other (rw (← e) h) refl c
+  pub turn_other : (x : UnknownTurn) → d ≡ Err x → u ≡ with_case t 8 false → Counted service body s t service u
+  turn_other x h c = other x (rw (← e) h) refl c
 
 pub ruleset with_turn_branches = (
   turn_opened,
@@ -201,24 +203,24 @@ pub ruleset with_turn_branches = (
   turn_other,
 )
 
-pub running_turn : (t r : Counters) (more : ℕ) (service body s left : List ℕ) → 0 < more → Running t more → Counted service body s t left r
-    → Running r (more - 1)
-running_turn t r more service body s left h f (opened d c) =
-    running_more t r more 0 (same_service (opening_code service) left s) h f c.counted
-running_turn t r more service body s left h f (changed d c) = running_more t r more 1 (same_service 0 left s) h f c.counted
-running_turn t r more service body s left h f (checked d k c) =
-    running_more t r more 2 (same_verdict c.code service (c.after ++ drop (bytes_at s) bytes) s) h f c.counted
-running_turn t r more service body s left h f (trimmed d k c) =
-    running_more t r more 3 (same_trimmed c.code service c.written (c.after ++ drop (bytes_at s) bytes) s) h f c.counted
-running_turn t r more service body s left h f (billed d c) =
-    running_more t r more 4 (same_bill c.code left (c.after ++ drop (numbers_at s) numbers) s) h f c.counted
-running_turn t r more service body s left h f (handed d k c) = running_more t r more 5 (same_service c.code service s) h f c.counted
-running_turn t r more service body s left h f (replayed d k c) =
+pub running_turn : (t r : Counters) (more : ℕ) (service body s left : List ℕ) → Running t more → Counted service body s t left r
+    → Running r (more + 1)
+running_turn t r more service body s left f (opened d c) =
+    running_more t r more 0 (same_service (opening_code service) left s) f c.counted
+running_turn t r more service body s left f (changed d c) = running_more t r more 1 (same_service 0 left s) f c.counted
+running_turn t r more service body s left f (checked d k c) =
+    running_more t r more 2 (same_verdict c.code service (c.after ++ drop (bytes_at s) bytes) s) f c.counted
+running_turn t r more service body s left f (trimmed d k c) =
+    running_more t r more 3 (same_trimmed c.code service c.written (c.after ++ drop (bytes_at s) bytes) s) f c.counted
+running_turn t r more service body s left f (billed d c) =
+    running_more t r more 4 (same_bill c.code left (c.after ++ drop (numbers_at s) numbers) s) f c.counted
+running_turn t r more service body s left f (handed d k c) = running_more t r more 5 (same_service c.code service s) f c.counted
+running_turn t r more service body s left f (replayed d k c) =
     running_more t r more 6 (same_replay c.code service (c.after ++ drop (bytes_at s) bytes) (c.told ++ drop (numbers_at s) numbers) s)
-    h f c.counted
-running_turn t r more service body s left h f (across d k c) =
+    f c.counted
+running_turn t r more service body s left f (across d k c) =
     running_more t r more 7 (same_replay c.code service (c.after ++ drop (bytes_at s) bytes) (c.told ++ drop (numbers_at s) numbers) s)
-    h f c.counted
-running_turn t r more service body s left h f (other d k c) = running_more t r more 8 false h f c
+    f c.counted
+running_turn t r more service body s left f (other x d k c) = running_more t r more 8 false f c
 
 pub ruleset judge_all_branches = (running_none, running_turn, running_over, service_fit, service_front, service_back)

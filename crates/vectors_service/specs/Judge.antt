@@ -1,11 +1,12 @@
 -- A turn counted, by what is done.
-use Rattle.std.specs.Prelude.{◌≡◌, false, cond, List, ◌++◌, ℕ, ◌+◌, ltb, leb, length, take, drop, set}
+use Rattle.std.specs.Prelude.{◌≡◌, false, cond, Ok, Err, List, ◌++◌, ℕ, ◌+◌, ltb, leb, length, take, drop, set}
 use Rattle.service_spec.specs.Opening.{opening_code, service_for}
 use Rattle.service_spec.specs.Promise.{CheckServed, TrimServed, BillServed, HandoverServed, ReplayServed, AcrossServed}
 use Rattle.vectors.specs.Counters.{with_case}
 use Rattle.vectors.specs.declared.counters.Counters.{Counters}
 use Rattle.vectors.specs.Parts.{first_in, second_in, third_in, fourth_in, fifth_in, sixth_on}
-use Rattle.vectors.specs.declared.turn.TurnKind.TheVariants.{Open, Set, Check, Trim, Bill, Handover, Replay, ReplayAcross, Other}
+use Rattle.vectors.specs.declared.turn.TurnKind.TheVariants.{Open, Set, Check, Trim, Bill, Handover, Replay, ReplayAcross}
+use Rattle.vectors.specs.declared.turn.UnknownTurn.{UnknownTurn}
 use Rattle.vectors.specs.Turn.{turn_kind_of, caller_at, lengths_at, set_at, bytes, numbers, bytes_at, numbers_at, tariff_at}
 use Rattle.vectors.specs.TurnSame.{same_service, same_verdict, same_trimmed, same_bill, same_replay}
 
@@ -76,12 +77,12 @@ pub record Changed (service s : List ℕ) (t : Counters) (left : List ℕ) (r : 
 
 -- what a turn counts as, by what is done; an unknown number counts as a difference
 pub data Counted (service body s : List ℕ) (t : Counters) (left : List ℕ) (r : Counters) : Type 0 where
-  opened : turn_kind_of s ≡ Open → Opened service body s t left r → Counted service body s t left r
-  changed : turn_kind_of s ≡ Set → Changed service s t left r → Counted service body s t left r
-  checked : turn_kind_of s ≡ Check → left ≡ service → Checked service body s t r → Counted service body s t left r
-  trimmed : turn_kind_of s ≡ Trim → left ≡ service → Trimmed service body s t r → Counted service body s t left r
-  billed : turn_kind_of s ≡ Bill → Billed service body s t left r → Counted service body s t left r
-  handed : turn_kind_of s ≡ Handover → left ≡ service → HandedOver service body s t r → Counted service body s t left r
-  replayed : turn_kind_of s ≡ Replay → left ≡ service → Replayed service body s t r → Counted service body s t left r
-  across : turn_kind_of s ≡ ReplayAcross → left ≡ service → ReplayedAcross service body s t r → Counted service body s t left r
-  other : turn_kind_of s ≡ Other → left ≡ service → r ≡ with_case t 8 false → Counted service body s t left r
+  opened : turn_kind_of s ≡ Ok Open → Opened service body s t left r → Counted service body s t left r
+  changed : turn_kind_of s ≡ Ok Set → Changed service s t left r → Counted service body s t left r
+  checked : turn_kind_of s ≡ Ok Check → left ≡ service → Checked service body s t r → Counted service body s t left r
+  trimmed : turn_kind_of s ≡ Ok Trim → left ≡ service → Trimmed service body s t r → Counted service body s t left r
+  billed : turn_kind_of s ≡ Ok Bill → Billed service body s t left r → Counted service body s t left r
+  handed : turn_kind_of s ≡ Ok Handover → left ≡ service → HandedOver service body s t r → Counted service body s t left r
+  replayed : turn_kind_of s ≡ Ok Replay → left ≡ service → Replayed service body s t r → Counted service body s t left r
+  across : turn_kind_of s ≡ Ok ReplayAcross → left ≡ service → ReplayedAcross service body s t r → Counted service body s t left r
+  other : (x : UnknownTurn) → turn_kind_of s ≡ Err x → left ≡ service → r ≡ with_case t 8 false → Counted service body s t left r

@@ -1,20 +1,35 @@
 // The line that the program writes for a file.
+use std::fmt;
 use vectors::counters::Counters;
-use vectors::counters_line::{write_count, write_differences};
-use vectors::stream::put;
+use vectors::counters_line::Differences;
+use vectors::turn::TurnKind;
 
-// Writes how many turns there are of each kind, and how many differ.
-pub fn write_line<W: Print>(out: &W, path: &[u8], counters: Counters) {
-    put(out, path);
-    put(out, b": ");
-    write_count(out, counters.cases, b" cases: ");
-    write_count(out, counters.kinds[0], b" opened, ");
-    write_count(out, counters.kinds[1], b" set, ");
-    write_count(out, counters.kinds[2], b" checked, ");
-    write_count(out, counters.kinds[3], b" trimmed, ");
-    write_count(out, counters.kinds[4], b" billed, ");
-    write_count(out, counters.kinds[5], b" handed over, ");
-    write_count(out, counters.kinds[6], b" replayed, ");
-    write_count(out, counters.kinds[7], b" replayed across; ");
-    write_differences(out, counters);
+// How many turns there are of each kind, and how many differ.
+#[derive(Clone, Copy)]
+pub struct Line {
+    pub tally: Counters,
+}
+
+impl fmt::Display for Line {
+    fn fmt<W: fmt::Write>(&self, f: &mut fmt::Formatter<W>) -> fmt::Result {
+        let kinds = &self.tally.kinds;
+        write!(f, "{} cases: ", self.tally.cases)?;
+        write!(f, "{} opened, ", kinds[usize::from(TurnKind::Open)])?;
+        write!(f, "{} set, ", kinds[usize::from(TurnKind::Set)])?;
+        write!(f, "{} checked, ", kinds[usize::from(TurnKind::Check)])?;
+        write!(f, "{} trimmed, ", kinds[usize::from(TurnKind::Trim)])?;
+        write!(f, "{} billed, ", kinds[usize::from(TurnKind::Bill)])?;
+        write!(
+            f,
+            "{} handed over, ",
+            kinds[usize::from(TurnKind::Handover)]
+        )?;
+        write!(f, "{} replayed, ", kinds[usize::from(TurnKind::Replay)])?;
+        write!(
+            f,
+            "{} replayed across; ",
+            kinds[usize::from(TurnKind::ReplayAcross)]
+        )?;
+        write!(f, "{}", Differences::from(self.tally))
+    }
 }

@@ -9,27 +9,25 @@ use limits::Limits;
 use limits::read::part;
 use std::io;
 use std::io::Read;
-use verdict_record::text::{Line, Text, text_of};
+use verdict_record::text::{Text, text_of};
 use verdict_record::verdict::fields_of;
 
 // The line of the verdict on the image. The program refuses images above 65,535 bytes, a lower limit than the library's.
+#[tactic(auto, using(crate::proofs::Lines::line_branches))]
 fn line_of(image: &[u8]) -> Text
     ensures { (take result.len result.bytes ≡ line_of image.now) × (result.len ≤ room) }
 {
     text_of(fields_of(judge_within(image, Limits::PROGRAM_BYTES)))
 }
 
-// The line for exactly the bytes that came. Where a read failed nothing is judged, and the text is empty.
+// The line for exactly the bytes that came.
+#[tactic(auto, using(crate::proofs::Lines::line_branches))]
 fn line_for(filled: Filled, buf: &[u8]) -> Text
     ensures { (take result.len result.bytes ≡ line_for filled buf.now) × (result.len ≤ room) }
 {
     match filled {
         Filled::Full => line_of(buf),
         Filled::Ended(n) => line_of(part(buf, 0, n)),
-        Filled::Failed(_) => Text {
-            bytes: [0; Line::ROOM],
-            len: 0,
-        },
     }
 }
 
@@ -39,9 +37,6 @@ pub fn answer<R: Read>(reader: &mut R, buf: &mut [u8]) -> io::Result<Text>
     ensures told { Answered result buf.new }
     ensures line { IfOk result (λ text. Answers buf.new (take text.len text.bytes) × (text.len ≤ room)) }
 {
-    let filled = fill(reader, buf);
-    if let Filled::Failed(error) = filled {
-        return Err(error);
-    }
+    let filled = fill(reader, buf)?;
     Ok(line_for(filled, buf))
 }

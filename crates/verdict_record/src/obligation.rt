@@ -45,42 +45,41 @@ pub const NOWHERE: Place = Place {
 };
 
 // The numbers by which a verdict names the obligation.
-pub fn place_of(what: Obligation) -> Place
-    ensures { result ≡ place_of what }
-{
-    match what {
-        Obligation::Start { thread } => Place {
-            class: 1,
-            thread,
-            point: 0,
-            other_thread: 0,
-            other_point: 0,
-        },
-        Obligation::Step { thread, point } => Place {
-            class: 2,
-            thread,
-            point,
-            other_thread: 0,
-            other_point: 0,
-        },
-        Obligation::Taken { thread, point } => Place {
-            class: 3,
-            thread,
-            point,
-            other_thread: 0,
-            other_point: 0,
-        },
-        Obligation::Interference {
-            thread,
-            point,
-            other,
-            other_point,
-        } => Place {
-            class: 4,
-            thread,
-            point,
-            other_thread: other,
-            other_point,
-        },
+impl From<Obligation> for Place {
+    ghost from_gives = { λ what place. place ≡ place_of what };
+
+    #[tactic(auto, using(crate::proofs::VerdictBranches::place_of_branches))]
+    fn from(what: Obligation) -> Place {
+        match what {
+            Obligation::Start { thread } => Place {
+                class: 1,
+                thread,
+                ..NOWHERE
+            },
+            Obligation::Step { thread, point } => Place {
+                class: 2,
+                thread,
+                point,
+                ..NOWHERE
+            },
+            Obligation::Taken { thread, point } => Place {
+                class: 3,
+                thread,
+                point,
+                ..NOWHERE
+            },
+            Obligation::Interference {
+                thread,
+                point,
+                other,
+                other_point,
+            } => Place {
+                class: 4,
+                thread,
+                point,
+                other_thread: other,
+                other_point,
+            },
+        }
     }
 }

@@ -20,14 +20,11 @@ fn write_record(bytes: Record, out: &mut [u8])
     requires { size ≤ length out.old }
     ensures { out.new ≡ bytes.bytes ++ drop size out.old }
 {
-    let mut i: usize = 0;
-    while i < VerdictRecord::SIZE {
-        out[i] = bytes.bytes[i];
-        i += 1;
-    }
+    out[..VerdictRecord::SIZE].copy_from_slice(&bytes.bytes);
 }
 
 // Writes the verdict's record to the buffer, which has room for it, and returns the verdict's code.
+#[tactic(auto, using(crate::proofs::VerdictBranches::report_branches, limits::proofs::BranchTests::tests))]
 pub fn report(verdict: Verdict, out: &mut [u8]) -> u16
     requires { size ≤ length out.old }
     ensures { (result ≡ code_for verdict out.old) × (out.new ≡ bytes_for verdict out.old) }

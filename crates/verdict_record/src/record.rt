@@ -24,6 +24,7 @@ pub struct Record {
 }
 
 // The record with these nine numbers, 16 bits each, little-endian.
+#[tactic(auto, unfolding(crate::specs::Record::record_bytes))]
 pub fn record_of(fields: Fields) -> Record
     ensures { result.bytes ≡ record_bytes fields }
 {

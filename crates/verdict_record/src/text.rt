@@ -25,6 +25,7 @@ impl Line {
 }
 
 // A text in a fixed buffer, of which the first `len` bytes are written.
+// A buffer with its length beside it: memory is fixed, and the text leaves as a value.
 #[derive(Clone, Copy)]
 pub struct Text {
     pub bytes: [u8; Line::ROOM],
@@ -32,24 +33,23 @@ pub struct Text {
 }
 
 // Appends a byte; a text that is full stays as it is. This bounds the index without a precondition; a line never fills the buffer.
+// By hand and no `Display`: the library says which bytes `write!` gives for a `String` alone, and that is on the heap.
+#[tactic(auto, using(crate::proofs::TextBranches::put_byte_branches, limits::proofs::BranchTests::tests))]
 fn put_byte(text: Text, byte: u8) -> Text
     ensures { (written result ≡ added (written text) (byte ∷ [])) × (result.len ≤ room) }
 {
-    let at = text.len;
-    if Line::ROOM <= at {
-        let bytes = text.bytes;
-        return Text {
-            bytes,
-            len: Line::ROOM,
-        };
-    }
     let mut next = text;
-    next.bytes[at] = byte;
-    next.len = at + 1;
+    if Line::ROOM <= text.len {
+        next.len = Line::ROOM;
+        return next;
+    }
+    next.bytes[text.len] = byte;
+    next.len += 1;
     next
 }
 
 // Appends the last `left` decimal digits of a number, without zeros in front if it has fewer.
+#[tactic(auto, using(crate::proofs::TextBranches::put_digits_branches, limits::proofs::BranchTests::tests))]
 fn put_digits(text: Text, number: usize, left: usize) -> Text
     ensures { written result ≡ added (written text) (digits left number) }
 {
@@ -64,6 +64,7 @@ fn put_digits(text: Text, number: usize, left: usize) -> Text
 }
 
 // Appends a number of 16 bits in decimal and the byte after it.
+#[tactic(auto, using(crate::proofs::TextBranches::number_put, limits::proofs::BranchTests::tests))]
 fn put_number(text: Text, value: usize, behind: u8) -> Text
     ensures { (written result ≡ added (written text) (numbered value behind)) × (result.len ≤ room) }
 {

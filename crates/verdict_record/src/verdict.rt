@@ -3,7 +3,7 @@ ghost use Rattle.std.specs.Prelude.{◌≡◌};
 ghost use Rattle.verdict_record.specs.Fields.{gathered, fields_of};
 
 use crate::fault_code::code_of;
-use crate::obligation::{NOWHERE, Obligation, Place, place_of};
+use crate::obligation::{NOWHERE, Obligation, Place};
 use image_frames::fault::Fault;
 
 // The four kinds of verdicts.
@@ -40,6 +40,7 @@ impl Verdict {
 }
 
 // The nine numbers, in the order of the record; those that don't apply are 0.
+// The code stays a number: this is the page's record as it is written, and `Verdict` is the enum that it is made from.
 #[derive(Clone, Copy)]
 pub struct Fields {
     pub code: u16,
@@ -54,6 +55,7 @@ pub struct Fields {
 }
 
 // The nine numbers, with the place of an obligation or a claim taken apart.
+#[tactic(auto, using(limits::proofs::BranchTests::tests), unfolding(crate::specs::Fields::gathered))]
 fn gather(code: u16, record: usize, place: Place, line: usize, count: usize) -> Fields
     ensures { result ≡ gathered code «record» place line count }
 {
@@ -71,6 +73,7 @@ fn gather(code: u16, record: usize, place: Place, line: usize, count: usize) -> 
 }
 
 // The nine numbers of a verdict.
+#[tactic(auto, using(crate::proofs::VerdictBranches::fields_of_branches, limits::proofs::BranchTests::tests))]
 pub fn fields_of(verdict: Verdict) -> Fields
     ensures { result ≡ fields_of verdict }
 {
@@ -84,7 +87,7 @@ pub fn fields_of(verdict: Verdict) -> Fields
             code,
             line,
             count,
-        } => gather(code as u16, 0, place_of(what), line, count),
+        } => gather(u16::from(code), 0, Place::from(what), line, count),
         Verdict::Denied {
             record,
             place,

@@ -13,8 +13,8 @@ use Rattle.image_frames.specs.Kinds.{order, most}
 use Rattle.image_frames.specs.Frames.{admit, frame}
 use Rattle.image_frames.specs.declared.fault.Fault.TheVariants.{Length}
 use Rattle.image_frames.specs.declared.frame.Seen.{Seen}
-use Rattle.image_frames.specs.declared.fault.Checked.{Checked}
-use Rattle.image_frames.specs.declared.fault.Checked.TheVariants.{Faulty}
+use Rattle.image_frames.specs.Fault.{Checked}
+use Rattle.std.specs.Prelude.{Err}
 
 -- one record more is a number that fits
 pub most_small : (k : ℕ) → most k ≤ 65535
@@ -33,11 +33,11 @@ pub room : (c : List ℕ) (k : ℕ) → get_or c k 0 < most k → get_or c k 0 +
 room c k h = omega (arith, most_small k)
 
 module _ (s : List ℕ) (at : ℕ) (c : Seen) where
-  pub frame_none : length s ≤ at → Faulty Length ≡ frame c (drop at s)
+  pub frame_none : length s ≤ at → Err Length ≡ frame c (drop at s)
   unfolding frame has
   frame_none h = rw (drop_of_length-le s h)
 
-  pub frame_short : length s - at < 2 → Faulty Length ≡ frame c (drop at s)
+  pub frame_short : length s - at < 2 → Err Length ≡ frame c (drop at s)
   unfolding frame
   frame_short h = let q : length (drop at s) < 2 = rw (length-drop at s) h in rw (has-not 2 (drop at s) q)
 
@@ -45,11 +45,11 @@ module _ (s : List ℕ) (at : ℕ) (c : Seen) where
     two : has 2 (drop at s) ≡ true
     two = has_all 2 (drop at s) (rw (length-drop at s) h)
 
-    pub frame_under : n < 2 → Faulty Length ≡ frame c (drop at s)
+    pub frame_under : n < 2 → Err Length ≡ frame c (drop at s)
     unfolding frame
     frame_under g = rw (two, ← e, lt-ltb _ _ g)
 
-    pub frame_past : 2 ≤ n → length s - at - 2 < n → Faulty Length ≡ frame c (drop at s)
+    pub frame_past : 2 ≤ n → length s - at - 2 < n → Err Length ≡ frame c (drop at s)
     unfolding frame
     frame_past g p =
         let q : length (drop at s) < 2 + n = rw (length-drop at s) (omega arith) in

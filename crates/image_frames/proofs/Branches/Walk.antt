@@ -10,13 +10,11 @@ use Rattle.limits.specs.Numbers.{le16}
 use Rattle.image_frames.proofs.PassedFrame.{Admitted, framed}
 use Rattle.image_frames.proofs.Branches.Frame.{room}
 use Rattle.image_frames.specs.Kinds.{order}
-use Rattle.image_frames.specs.Frames.{counted, frame, ended, unless_faulty, walk, none, frames}
+use Rattle.image_frames.specs.Frames.{Framing, refused, counted, frame, ended, unless_faulty, walk, none, frames}
 use Rattle.image_frames.specs.declared.fault.Fault.{Fault}
-use Rattle.image_frames.specs.declared.fault.Checked.{Checked}
-use Rattle.image_frames.specs.declared.fault.Checked.TheVariants.{Passed, Faulty}
+use Rattle.image_frames.specs.Fault.{Checked, passed}
+use Rattle.std.specs.Prelude.{Err}
 use Rattle.image_frames.specs.declared.frame.Seen.{Seen}
-use Rattle.image_frames.specs.declared.walk.Framing.{Framing}
-use Rattle.image_frames.specs.declared.walk.Framing.TheVariants.{Refused}
 
 walk_end : (k i : ℕ) (c : Seen) → walk k i c [] ≡ ended i c
 unfolding walk
@@ -31,8 +29,8 @@ walk_cons (suc k) i c [] h g = absurd (omega arith)
 walk_cons (suc k) i c (x ∷ l) h g = rw (sub-one (suc k))
 
 -- the frame passed: the record ends inside, its kind has a place among the counts, and one more is a number that fits
-module _ (s : List ℕ) (at : ℕ) (c : Seen) (f : Checked) (e : f ≡ frame c (drop at s)) (z : f ≡ Passed) where
-  pub frame_fits : (n : ℕ) → 0 < length s - at → n ≡ le16 (drop at s) → at + 2 + n ≤ length s
+module _ (s : List ℕ) (at : ℕ) (c : Seen) (f : Checked) (e : f ≡ frame c (drop at s)) (z : f ≡ passed) where
+  pub frame_fits : (n : ℕ) → at < length s → n ≡ le16 (drop at s) → at + (2 + n) ≤ length s
   frame_fits n lt d = omega (arith, (framed c (drop at s) (sym e ∙ z)).inside, length-drop at s)
 
   module _ (w k : ℕ) (d : w ≡ le16 (drop (at + 2) s)) (o : k ≡ order w) where
@@ -46,7 +44,7 @@ module _ (s : List ℕ) (at : ℕ) (c : Seen) (f : Checked) (e : f ≡ frame c (
     pub kind_room : get_or c.count k 0 + 1 < 65536
     kind_room = room c.count k admits_it.few
 
-module _ (s : List ℕ) (at i : ℕ) (c : Seen) (f : Checked) (lt : 0 < length s - at) (low : 1 ≤ i) (le : i ≤ at + 1)
+module _ (s : List ℕ) (at i : ℕ) (c : Seen) (f : Checked) (lt : at < length s) (low : 1 ≤ i) (le : i ≤ at + 1)
     (e : f ≡ frame c (drop at s)) where
   step : walk (length s + 1 - i) i c (drop at s) ≡ unless_faulty f i
       (walk (length s + 1 - i - 1) (i + 1) (counted c (order (le16 (drop 2 (drop at s))))) (drop (2 + le16 (drop at s)) (drop at s)))
@@ -55,24 +53,23 @@ module _ (s : List ℕ) (at i : ℕ) (c : Seen) (f : Checked) (lt : 0 < length s
       let p : 0 < length s + 1 - i = omega arith in
       rw e (walk_cons (length s + 1 - i) i c (drop at s) p q)
 
-  pub walk_stop : (b : Fault) → frames s ≡ walk (length s + 1 - i) i c (drop at s) → f ≡ Faulty b → Refused b i ≡ frames s
+  pub walk_stop : (b : Fault) → frames s ≡ walk (length s + 1 - i) i c (drop at s) → f ≡ Err b → refused b i ≡ frames s
   walk_stop b h z = sym (h ∙ step ∙ (rw z))
 
-  pub walk_more : (w k n : ℕ) → frames s ≡ walk (length s + 1 - i) i c (drop at s) → f ≡ Passed → w ≡ le16 (drop (at + 2) s) → k ≡ order w
+  pub walk_more : (w k n : ℕ) → frames s ≡ walk (length s + 1 - i) i c (drop at s) → f ≡ passed → w ≡ le16 (drop (at + 2) s) → k ≡ order w
       → n ≡ le16 (drop at s)
-      → frames s ≡ walk (length s + 1 - (i + 1)) (i + 1) (counted c k) (drop (at + 2 + n) s)
+      → frames s ≡ walk (length s + 1 - (i + 1)) (i + 1) (counted c k) (drop (at + (2 + n)) s)
   walk_more w k n h z ew ek en =
       let p : length s + 1 - i - 1 ≡ length s + 1 - (i + 1) = omega arith in
-      let q : at + (2 + n) ≡ at + 2 + n = omega arith in
-      h ∙ step ∙ (rw (z, p, drop-drop 2 at s, ← ew, ← ek, ← en, drop-drop (2 + n) at s, q))
+      h ∙ step ∙ (rw (z, p, drop-drop 2 at s, ← ew, ← ek, ← en, drop-drop (2 + n) at s))
 
 pub walk_start : (s : List ℕ) → frames s ≡ walk (length s + 1 - 1) 1 none (drop 0 s)
 unfolding frames
 walk_start s = let p : length s + 1 - 1 ≡ length s = omega arith in rw p
 
-pub walk_last : (s : List ℕ) (at i : ℕ) (c : Seen) (r : Framing) → length s - at ≤ 0 → frames s ≡ walk (length s + 1 - i) i c (drop at s)
+pub walk_last : (s : List ℕ) (at i : ℕ) (c : Seen) (r : Framing) → length s ≤ at → frames s ≡ walk (length s + 1 - i) i c (drop at s)
     → r ≡ ended i c → r ≡ frames s
-walk_last s at i c r h e d = let q : length s ≤ at = omega arith in rw (e, drop_of_length-le s q, walk_end) d
+walk_last s at i c r h e d = rw (e, drop_of_length-le s h, walk_end) d
 
 pub ruleset walk_frames_branches = (frame_fits, kind_known, kind_room, walk_start, walk_stop, walk_more, walk_last)
 

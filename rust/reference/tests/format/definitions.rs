@@ -95,15 +95,15 @@ fn codes() -> Vec<(&'static str, u32)> {
         ("OTHER_CONCLUSION", value(VERDICT, "code_of false false just = {}\n")),
         ("UNJUSTIFIED", value(VERDICT, "code_of false true false = {}\n")),
         ("CLAIM", value(FIELDS, "fields_of (Denied i p l n) = gathered {} i p l n")),
-        ("TRIM_REFUSED", value(trim, "answer_with s buffer Declined = answer {} 0\n")),
-        ("TRIM_ROOM", value(trim, "(answer {} 0) (answer 0 (length t))")),
+        ("TRIM_REFUSED", value(trim, "code_number NotAccepted = {}\n")),
+        ("TRIM_ROOM", value(trim, "code_number Short = {}\n")),
         ("REPLAY_REFUSED", value("replay_spec/specs/Promise", "declined = record { code = {};")),
         ("STEP_THREAD", value(REPLAY, "replayed P room s k (t ∷ []) = record { code = {};")),
         ("STEP_PICK", value(REPLAY, &format!("{room} 29 0) {{}})"))),
         ("STEP_ROOM", value(REPLAY, &format!("{room} {{}} 0)"))),
-        ("BILL_REFUSED", value(BILL, "not_accepted = {}\n")),
-        ("BILL_END", value(BILL, "number_at_end = {}\n")),
-        ("UNLIKE", value(HANDOVER, "by_acceptance old new table Declined b = {}\n")),
+        ("BILL_REFUSED", value(BILL, "code_number NotAccepted = {}\n")),
+        ("BILL_END", value(BILL, "code_number NumberAtEnd = {}\n")),
+        ("UNLIKE", value(HANDOVER, "by_acceptance old new table None b = {}\n")),
         ("TABLE", value(HANDOVER, "(cond lines_serve 0 34) {}\n")),
         ("UNSERVED", value(HANDOVER, "(cond lines_serve 0 {})")),
         ("NO_CALLER", value(ACCOUNT, "admission_at r none = {}\n")),
@@ -149,7 +149,7 @@ fn places() -> Vec<(&'static str, u32)> {
     let record = |field| place(RECORD, "record_bytes f", field);
     let answer = |field| place(ANSWER, "numbers_of a", field);
     let write = |field| place(TABLE, "entry_bytes w", field);
-    let bill = |field| place("bill_spec/specs/Output", "numbers_of b", field);
+    let bill = |field| place("bill_spec/specs/Output", "numbers_of n b", field);
     assert_eq!(definition(ENTRIES, "point_named table i"), "get_or table (entry_size * i) 0");
     assert!(definition(ACCOUNT, "account_at s c").contains("rights = get_or s (c - 1) 0;"));
     vec![
@@ -176,9 +176,9 @@ fn places() -> Vec<(&'static str, u32)> {
         ("SERVICE_RIGHTS", 0),
         // The number of caller 1.
         ("SERVICE_BILLED", value(ACCOUNT, "number_place c = {} + c\n") + 1),
-        ("BILL_CENTS", bill(".cents")),
-        ("BILL_BILLED", bill(".billed")),
-        ("BILL_THREAD", bill(".threads")),
+        ("BILL_CENTS", bill("cents_of")),
+        ("BILL_BILLED", bill("number_after")),
+        ("BILL_THREAD", bill("sums_of")),
     ]
 }
 

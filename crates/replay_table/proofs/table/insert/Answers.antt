@@ -7,7 +7,6 @@ use Rattle.replay_table.proofs.table.insert.Goals as goal
 
 pub loop-e-init : goal.loop-e-init
 loop-e-init c = record {
-  within = omega arith;
   all = c.visited-n.ensures;
   swept = sym (sweep_none c.args.order c.args.table.now);
   few = let f = visits_few c.args.order (length c.args.table.now) in omega arith;
@@ -19,7 +18,6 @@ loop-e-preserved c =
     let o = c.args.order in let e = c.loop-e.e in let l = c.loop-e.table in let t = c.turn_at-t.result in
     let same : length (slice_set l e t.put) ≡ length l = length-set l e t.put in
     record {
-      within = omega arith;
       all = c.visited-n.ensures;
       swept = rw (add-one e) (sweep_next o e c.args.table.now l c.loop-e.carried t c.loop-e.invariant.swept c.turn_at-t.ensures);
       few = omega arith;

@@ -1,34 +1,31 @@
-use Rattle.std.proofs.Common.{rules}
-use Rattle.vectors.proofs.CaseBranches.{bodies}
+use Rattle.std.proofs.Common.{rules, arith}
+use Rattle.vectors.proofs.CounterFacts.{running_over}
 use Rattle.vectors_calls.proofs.FileCounted.{judge_all_branches}
 use Rattle.vectors_calls.proofs.judge.judge_all.Goals as goal
 
-pub loop-left-init : goal.loop-left-init
-loop-left-init g c = search (judge_all_branches, bodies, rules)
+pub loop-init : goal.loop-init
+loop-init g c = search (judge_all_branches, rules)
+
+pub loop-preserved : goal.loop-preserved
+loop-preserved g c = search (judge_all_branches, rules)
+
+pub returns-in-Ok-None-clause-judged : goal.returns-in-Ok-None-clause-judged
+returns-in-Ok-None-clause-judged g c = running_over c.loop.tally c.loop.counter (omega arith) c.loop.invariant.3
+
+pub returns-in-Err-clause-stopped : goal.returns-in-Err-clause-stopped
+returns-in-Err-clause-stopped g c = running_over c.loop.tally c.loop.counter (omega arith) c.loop.invariant.3
+
+pub returns-clause-stopped : goal.returns-clause-stopped
+returns-clause-stopped g c = running_over c.loop.tally c.loop.counter (omega arith) c.loop.invariant.3
 
 pub slice_bounds-stored-end : goal.slice_bounds-stored-end
-slice_bounds-stored-end g c = search (judge_all_branches, bodies, rules)
+slice_bounds-stored-end g c = search (judge_all_branches, rules)
 
-pub slice_bounds-read_case-end-in-loop-left : goal.slice_bounds-read_case-end-in-loop-left
-slice_bounds-read_case-end-in-loop-left g c = search (judge_all_branches, bodies, rules)
+pub slice_bounds-read_case-end-in-loop : goal.slice_bounds-read_case-end-in-loop
+slice_bounds-read_case-end-in-loop g c = search (judge_all_branches, rules)
 
-pub slice_bounds-space-end : goal.slice_bounds-space-end
-slice_bounds-space-end g c = search (judge_all_branches, bodies, rules)
+pub slice_bounds-stored-end-in-Ok-Some : goal.slice_bounds-stored-end-in-Ok-Some
+slice_bounds-stored-end-in-Ok-Some g c = search (judge_all_branches, rules)
 
-pub slice_bounds-with_call-end : goal.slice_bounds-with_call-end
-slice_bounds-with_call-end g c = search (judge_all_branches, bodies, rules)
-
-pub slice_bounds-stored-end-in-Case : goal.slice_bounds-stored-end-in-Case
-slice_bounds-stored-end-in-Case g c = search (judge_all_branches, bodies, rules)
-
-pub slice_bounds-with_call-end-in-Case : goal.slice_bounds-with_call-end-in-Case
-slice_bounds-with_call-end-in-Case g c = search (judge_all_branches, bodies, rules)
-
-pub loop-left-preserved : goal.loop-left-preserved
-loop-left-preserved g c = search (judge_all_branches, bodies, rules)
-
-pub returns-in-Over : goal.returns-in-Over
-returns-in-Over g c = search (judge_all_branches, bodies, rules)
-
-pub returns : goal.returns
-returns g c = search (judge_all_branches, bodies, rules)
+pub slice_bounds-with_call-end-in-Ok-Some : goal.slice_bounds-with_call-end-in-Ok-Some
+slice_bounds-with_call-end-in-Ok-Some g c = search (judge_all_branches, rules)

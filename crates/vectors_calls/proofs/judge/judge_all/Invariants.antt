@@ -4,9 +4,5 @@ use Rattle.vectors.proofs.CounterFacts.{Running}
 use Rattle.vectors_calls.specs.Kind.{tail_of}
 use Rattle.vectors_calls.proofs.judge.judge_all.Given as goal
 
-abbrev pub invariant-loop-left : goal.invariant-loop-left
-invariant-loop-left g l =
-    (space_bytes ≡ length l.space) × (118 ≡ length l.stored) × (l.tail ≡ tail_of l.kind) × Running l.tally l.left
-
-abbrev pub decreases-loop-left : goal.decreases-loop-left
-decreases-loop-left g l = l.left
+abbrev pub invariant-loop : goal.invariant-loop
+invariant-loop g l = (space_bytes ≡ length l.space) × (118 ≡ length l.stored) × (l.tail ≡ tail_of l.kind) × Running l.tally l.counter

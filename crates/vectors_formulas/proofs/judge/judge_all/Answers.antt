@@ -1,22 +1,19 @@
-use Rattle.std.proofs.Common.{rules}
-use Rattle.vectors.proofs.CaseBranches.{bodies}
+use Rattle.std.proofs.Common.{rules, arith}
+use Rattle.vectors.proofs.CounterFacts.{running_over}
 use Rattle.vectors_formulas.proofs.FileCounted.{judge_all_branches}
 use Rattle.vectors_formulas.proofs.judge.judge_all.Goals as goal
 
-pub loop-left-init : goal.loop-left-init
-loop-left-init g c = search (judge_all_branches, bodies, rules)
+pub loop-init : goal.loop-init
+loop-init g c = search (judge_all_branches, rules)
 
-pub slice_bounds-space-end : goal.slice_bounds-space-end
-slice_bounds-space-end g c = search (judge_all_branches, bodies, rules)
+pub loop-preserved : goal.loop-preserved
+loop-preserved g c = search (judge_all_branches, rules)
 
-pub slice_bounds-with_formula-end : goal.slice_bounds-with_formula-end
-slice_bounds-with_formula-end g c = search (judge_all_branches, bodies, rules)
+pub returns-in-Ok-None-clause-judged : goal.returns-in-Ok-None-clause-judged
+returns-in-Ok-None-clause-judged g c = running_over c.loop.tally c.loop.counter (omega arith) c.loop.invariant.2
 
-pub loop-left-preserved : goal.loop-left-preserved
-loop-left-preserved g c = search (judge_all_branches, bodies, rules)
+pub returns-in-Err-clause-stopped : goal.returns-in-Err-clause-stopped
+returns-in-Err-clause-stopped g c = running_over c.loop.tally c.loop.counter (omega arith) c.loop.invariant.2
 
-pub returns-in-Over : goal.returns-in-Over
-returns-in-Over g c = search (judge_all_branches, bodies, rules)
-
-pub returns : goal.returns
-returns g c = search (judge_all_branches, bodies, rules)
+pub returns-clause-stopped : goal.returns-clause-stopped
+returns-clause-stopped g c = running_over c.loop.tally c.loop.counter (omega arith) c.loop.invariant.2

@@ -2,8 +2,5 @@ use Rattle.std.proofs.Common.{◌≡◌, length}
 use Rattle.vectors.proofs.CounterFacts.{Running}
 use Rattle.vectors_formulas.proofs.judge.judge_all.Given as goal
 
-abbrev pub invariant-loop-left : goal.invariant-loop-left
-invariant-loop-left g l = (4096 ≡ length l.space) × (8 ≡ length l.stored) × Running l.tally l.left
-
-abbrev pub decreases-loop-left : goal.decreases-loop-left
-decreases-loop-left g l = l.left
+abbrev pub invariant-loop : goal.invariant-loop
+invariant-loop g l = (4096 ≡ length l.space) × (8 ≡ length l.stored) × Running l.tally l.counter

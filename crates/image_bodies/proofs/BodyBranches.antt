@@ -1,3 +1,0 @@
-pub mod Formula
-pub mod Outlined
-pub mod Uses

@@ -1,3 +1,0 @@
-pub mod Counts
-pub mod Line
-pub mod Claim

@@ -1,8 +1,0 @@
-use Rattle.limits.proofs.BranchTests.{tests}
-use Rattle.image_index.proofs.LookUps.{look_up_branches}
-use borrow.Author.Rules.{rules}
-use Rattle.image_index.proofs.look_up.body_of.Statement.{statement}
-use Rattle.image_index.proofs.look_up.body_of.Tie as tie
-
-pub body_of_spec : {M : Type 1} → statement M
-body_of_spec = tie.close (tie.spec (λ c κs. search rules) (λ c κs. search rules) (λ c. search (look_up_branches, tests)))

@@ -1,0 +1,11 @@
+use Rattle.std.proofs.Common.{◌≡◌, ◌+◌, ◌-◌, ◌≤◌}
+use Rattle.std.specs.Prelude.{Ok}
+use Rattle.rules_justified.specs.Marks.{as_marks}
+use Rattle.obligations.specs.JudgementOrder.{starts_to}
+use Rattle.obligations.proofs.own_steps.judge_starts.Given as goal
+
+-- the starts before thread t are met
+abbrev pub invariant-loop-t : goal.invariant-loop-t
+invariant-loop-t l =
+    (l.t ≤ l.t-end + 1) × (Ok l.count ≡ starts_to l.certificate.records.now.image.now l.certificate.records.now.sizes
+    (as_marks l.certificate.marks.now) (l.t - 1) (Ok l.fn.before))

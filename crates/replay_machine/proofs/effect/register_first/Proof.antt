@@ -1,8 +1,0 @@
-use Rattle.image_access.specs.AccessPlaces.{register_first}
-use Rattle.limits.proofs.BranchTests.{tests}
-use Rattle.replay_machine.proofs.effect.register_first.Statement.{statement}
-use Rattle.replay_machine.proofs.effect.register_first.Tie as tie
-
-pub register_first_spec : {M : Type 1} → statement M
-unfolding register_first
-register_first_spec = tie.close (tie.spec (λ c. search tests) (λ c. search tests))

@@ -1,9 +1,0 @@
-use Rattle.rules_line.proofs.NewValueBranches.{new_value_branches}
-use Rattle.limits.proofs.BranchTests.{tests}
-use borrow.Author.Rules.{rules}
-use Rattle.rules_line.proofs.new_value.is_formula.Statement.{statement}
-use Rattle.rules_line.proofs.new_value.is_formula.Tie as tie
-
-pub is_formula_spec : {M : Type 1} → statement M
-is_formula_spec = tie.close (tie.spec (λ c κs. search rules) (λ c. search rules) (λ c. search rules) (λ c. search (new_value_branches, tests))
-    (λ c. search (new_value_branches, tests)))

@@ -1,9 +1,0 @@
-use Rattle.limits.proofs.BranchTests.{tests}
-use Rattle.service_spec.proofs.ReplyBranches.{entry_serving}
-use borrow.Author.Rules.{rules}
-use Rattle.service.proofs.entry.serve_handover.Statement.{statement}
-use Rattle.service.proofs.entry.serve_handover.Tie as tie
-
-pub serve_handover_spec : {M : Type 1} → statement M
-serve_handover_spec = tie.close (tie.spec (λ c κs. search rules) (λ c. search (entry_serving, tests)) (λ c κs. search rules)
-    (λ c. search (entry_serving, tests)))

@@ -1,8 +1,0 @@
-use Rattle.trim_encode.proofs.ByteBranches.{bytes_branches}
-use Rattle.limits.proofs.BranchTests.{tests}
-use borrow.Author.Rules.{rules}
-use Rattle.trim_encode.proofs.bytes.put_byte.Statement.{statement}
-use Rattle.trim_encode.proofs.bytes.put_byte.Tie as tie
-
-pub put_byte_spec : {M : Type 1} → statement M
-put_byte_spec = tie.close (tie.spec (λ c. search rules) (λ c. search rules) (λ c. search rules) (λ c. search (bytes_branches, tests)))

@@ -1,8 +1,0 @@
-use Rattle.limits.proofs.BranchTests.{tests}
-use Rattle.vectors.proofs.BillAnswerBranches.{bill_answer_branches}
-use Rattle.std.proofs.Common.{rules}
-use Rattle.vectors.proofs.bill_answer.lent_at.Statement.{statement}
-use Rattle.vectors.proofs.bill_answer.lent_at.Tie as tie
-
-pub lent_at_spec : {M : Type 1} → statement M
-lent_at_spec = tie.close (tie.spec (λ c κs. search rules) (λ c. search (bill_answer_branches, tests)) (λ c. search (bill_answer_branches, tests)))

@@ -1,8 +1,0 @@
-use Rattle.limits.proofs.BranchTests.{tests}
-use Rattle.vectors.proofs.TurnBranches.{turn_branches}
-use Rattle.std.proofs.Common.{rules}
-use Rattle.vectors.proofs.turn.lengths_at.Statement.{statement}
-use Rattle.vectors.proofs.turn.lengths_at.Tie as tie
-
-pub lengths_at_spec : {M : Type 1} → statement M
-lengths_at_spec = tie.close (tie.spec (λ c κs. search rules) (λ c. search (turn_branches, tests)))

@@ -1,9 +1,0 @@
-use Rattle.limits.proofs.BranchTests.{tests}
-use Rattle.vectors_service.proofs.FileCounted.{handover_counted}
-use borrow.Author.Rules.{rules}
-use Rattle.vectors_service.proofs.replays.with_handover.Statement.{statement}
-use Rattle.vectors_service.proofs.replays.with_handover.Tie as tie
-
-pub with_handover_spec : {M : Type 1} → statement M
-with_handover_spec =
-    tie.close (tie.spec (λ c κs. search rules) (λ c κs. search rules) (λ c κs. search rules) (λ c. search (handover_counted, tests)))
