@@ -5,9 +5,9 @@
  * below. It needs memcpy and memset of the C library, and nothing else: no heap, no files, no state from one call to the
  * next. So any number of threads may call it at once.
  *
- * Stack, measured over all stored images: `check_image` takes 66 KB for the smallest that is accepted and 142 KB for a test nested as deep
- * as it may be. Give it 192 KB, and `replay_trace` too, which takes 1 KB more. `trim_image` takes 36 KB more than
- * `check_image`, `check_handover` 32 KB and `replay_handover` 42 KB: give them 256 KB. Each `serve_` call takes less than 1 KB
+ * Stack, measured over all stored images: `check_image` takes 64 KB for the smallest that is accepted and 140 KB for a test nested as deep
+ * as it may be. Give it 192 KB, and `replay_trace` too, which takes 2 KB more. `trim_image` takes 36 KB more than
+ * `check_image`, `check_handover` 32 KB and `replay_handover` 44 KB: give them 256 KB. Each `serve_` call takes less than 1 KB
  * more than the call that it serves, `serve_bill` than `check_image`. What a service remembers stands in numbers that the
  * host lends.
  */

@@ -56,7 +56,7 @@ pub fn table_fits(old: &Counted, new: &Indexed, new_sizes: Sizes, table: &[u8]) 
     ensures { result ≡ table_fits (image_of old.now.sizes (bodies old.now.image.now)) (image_of new_sizes (bodies new.now))
         table.now }
 {
-    if table.len() != Entry::SIZE * points_in(old) {
+    if table.len() != Entry::SIZE * points_in(old.image.bytes(), old.sizes, old.totals) {
         return false;
     }
     threads_fit(old, new, new_sizes, table)

@@ -21,7 +21,7 @@ pub struct Claimed {
 // The body of claim `i`.
 // `i < 65536` stays a clause: a type of 16 bits would narrow the parameter of `claim_of` and `claim_place`.
 #[tactic(auto, unfolding(image_meaning::specs::Image::claim_body))]
-fn claim_body<'a>(image: &Indexed<'a>, sizes: Sizes, i: usize) -> &'a [u8]
+fn claim_body<'a>(image: &Indexed<'a, '_>, sizes: Sizes, i: usize) -> &'a [u8]
     requires { i < 65536 }
     ensures { result.now ≡ claim_body sizes (bodies image.now) i }
 {

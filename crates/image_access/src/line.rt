@@ -24,7 +24,7 @@ pub struct Line {
 
 // The body of line `number`. The sum saturates only for a number that no line of an image has, and no record either.
 // Image and sizes stay apart: `Counted` would bring totals, which the pass over the lines neither counts nor reads.
-fn line_body<'a>(image: &Indexed<'a>, sizes: Sizes, number: usize) -> &'a [u8]
+fn line_body<'a>(image: &Indexed<'a, '_>, sizes: Sizes, number: usize) -> &'a [u8]
     ensures { result.now ≡ line_body sizes (bodies image.now) number }
 {
     let before = usize::from(sizes.formulas) + usize::from(sizes.threads) + 1;

@@ -63,14 +63,14 @@ fn totals_of(image: &Indexed, sizes: Sizes) -> Totals
 // An image with its totals.
 #[derive(Drop)]
 pub struct Counted<'a> {
-    pub image: &'a Indexed<'a>,
+    pub image: &'a Indexed<'a, 'a>,
     pub sizes: Sizes,
     pub totals: Totals,
     pub ghost counted: { totals ≡ totals_of sizes (bodies image.now) },
 }
 
 impl<'a> Counted<'a> {
-    pub fn new(image: &'a Indexed<'a>, sizes: Sizes) -> Counted<'a>
+    pub fn new(image: &'a Indexed<'a, 'a>, sizes: Sizes) -> Counted<'a>
         ensures bytes { result.image.now ≡ image.now }
         ensures counts { result.sizes ≡ sizes }
     {

@@ -11,13 +11,18 @@ use limits::range::{in_range, u16_within};
 use limits::read::byte_at;
 
 // Positions in a claim's body, and its length.
-const FIRST: usize = 0;
+#[derive(Drop)]
+pub struct Claim;
 
-const SECOND: usize = 2;
+impl Claim {
+    pub const FIRST: usize = 0;
 
-const LINE: usize = 4;
+    pub const SECOND: usize = 2;
 
-const SIZE: usize = 6;
+    pub const LINE: usize = 4;
+
+    pub const SIZE: usize = 6;
+}
 
 // Whether the byte at position `i` is a thread that the image has, and the byte after it one of its points, the last one included.
 // Image and sizes stay apart, since each clause names both by themselves, and a struct would lengthen it.
@@ -39,7 +44,7 @@ fn point_there(image: &Indexed, sizes: Sizes, body: &[u8], i: usize) -> bool
 fn are_different(body: &[u8]) -> bool
     ensures { result ≡ different body.now }
 {
-    byte_at(body, FIRST) != byte_at(body, SECOND)
+    byte_at(body, Claim::FIRST) != byte_at(body, Claim::SECOND)
 }
 
 // Whether every number of a claim is in its range. Line 0 passes here and fails when the claim is judged (code 26).
@@ -47,10 +52,10 @@ fn are_different(body: &[u8]) -> bool
 fn claim_fits(image: &Indexed, sizes: Sizes, body: &[u8]) -> bool
     ensures { result ≡ claimed sizes (bodies image.now) body.now }
 {
-    point_there(image, sizes, body, FIRST)
-        && point_there(image, sizes, body, SECOND)
+    point_there(image, sizes, body, Claim::FIRST)
+        && point_there(image, sizes, body, Claim::SECOND)
         && are_different(body)
-        && u16_within(body, LINE, 0, usize::from(sizes.lines))
+        && u16_within(body, Claim::LINE, 0, usize::from(sizes.lines))
 }
 
 // Checks the length of a claim's body, then its numbers.
@@ -58,7 +63,7 @@ fn claim_fits(image: &Indexed, sizes: Sizes, body: &[u8]) -> bool
 pub fn check_claim(image: &Indexed, sizes: Sizes, body: &[u8]) -> Result<(), Fault>
     ensures { result ≡ claim sizes (bodies image.now) body.now }
 {
-    if body.len() != SIZE {
+    if body.len() != Claim::SIZE {
         return Err(Fault::Body);
     }
     if !claim_fits(image, sizes, body) {

@@ -24,17 +24,39 @@ pub enum Form {
     Unlisted,
 }
 
+impl Form {
+    // The rule numbers of each form.
+    pub const FIRST_TRIPLE: usize = 1;
+
+    pub const LAST_TRIPLE: usize = 16;
+
+    pub const FIRST_IMPLICATION: usize = 20;
+
+    pub const LAST_IMPLICATION: usize = 27;
+
+    pub const FIRST_INCLUSION: usize = 30;
+
+    pub const LAST_INCLUSION: usize = 46;
+
+    // The last of the triples of exchange and fetch-add, which follow the inclusions.
+    pub const LAST_RESULT: usize = 49;
+
+    // The rule of a triple for a whole pair.
+    pub const PAIR: usize = 50;
+}
+
 impl From<u8> for Form {
     ghost from_gives = { λ rule form. form ≡ form_of rule };
 
     // The form of a line, by its rule's number.
     #[tactic(auto, unfolding(crate::specs::Line::form_of))]
     fn from(rule: u8) -> Form {
-        match rule {
-            1..=16 | 47..=49 => Form::Triple,
-            20..=27 => Form::Implication,
-            30..=46 => Form::Inclusion,
-            50 => Form::Pair,
+        match usize::from(rule) {
+            Form::FIRST_TRIPLE..=Form::LAST_TRIPLE => Form::Triple,
+            Form::FIRST_IMPLICATION..=Form::LAST_IMPLICATION => Form::Implication,
+            Form::FIRST_INCLUSION..=Form::LAST_INCLUSION => Form::Inclusion,
+            Form::LAST_INCLUSION..=Form::LAST_RESULT => Form::Triple,
+            Form::PAIR => Form::Pair,
             _ => Form::Unlisted,
         }
     }

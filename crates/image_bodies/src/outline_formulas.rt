@@ -19,18 +19,18 @@ fn entry_count(sizes: Sizes) -> usize
 }
 
 // The formulas of an image, each tested once.
-#[derive(Drop)]
+#[derive(Clone, Copy)]
 pub struct Outlined<'a> {
-    pub image: &'a Indexed<'a>,
+    pub image: &'a Indexed<'a, 'a>,
     pub sizes: Sizes,
     // Entry k says whether formula k is an assertion without start. Entry 0 belongs to the header, which is body 0.
-    on: [bool; Limits::FORMULAS + 1],
-    ghost tested: { on ≡ outlined_of sizes (bodies image.now) },
+    pub on: [bool; Limits::FORMULAS + 1],
+    pub ghost tested: { on ≡ outlined_of sizes (bodies image.now) },
 }
 
 impl<'a> Outlined<'a> {
     #[tactic(auto, using(crate::proofs::Outlined::outlined_of_branches))]
-    pub fn new(image: &'a Indexed<'a>, sizes: Sizes) -> Outlined<'a>
+    pub fn new(image: &'a Indexed<'a, 'a>, sizes: Sizes) -> Outlined<'a>
         ensures bytes { result.image.now ≡ image.now }
         ensures counts { result.sizes ≡ sizes }
     {

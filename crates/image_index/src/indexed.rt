@@ -12,14 +12,14 @@ use limits::Limits;
 use limits::read::rest;
 use std::marker::Model;
 
-// The bytes of an image, and the table that `fill_index` made of them. In clauses it stands for the bytes.
+// The bytes of an image, and the table that `fill_index` made of them. In clauses it stands for the bytes. A body outlives the table.
 #[derive(Drop)]
-pub struct Indexed<'a> {
+pub struct Indexed<'a, 'b> {
     bytes: &'a [u8],
-    index: &'a [usize],
+    index: &'b [usize],
 }
 
-impl<'a> Model for Indexed<'a> {
+impl<'a, 'b> Model for Indexed<'a, 'b> {
     ghost Value = { List ℕ };
 
     ghost view = { λ image. image.bytes.now };
@@ -27,8 +27,8 @@ impl<'a> Model for Indexed<'a> {
     ghost invariant = { λ image. image.index.now ≡ index_of image.bytes.now };
 }
 
-impl<'a> Indexed<'a> {
-    pub fn new(bytes: &'a [u8], index: &'a [usize]) -> Indexed<'a>
+impl<'a, 'b> Indexed<'a, 'b> {
+    pub fn new(bytes: &'a [u8], index: &'b [usize]) -> Indexed<'a, 'b>
         requires { index.now ≡ index_of bytes.now }
         ensures { result ≡ bytes.now }
     {

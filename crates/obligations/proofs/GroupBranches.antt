@@ -130,6 +130,13 @@ module _ (s : List ℕ) (z : Sizes) (m : Marks) where
   unfolding starts_to judged
   starts_none r = refl
 
+  pub starts_begun : (c : ℕ) (r : Judgement) → r ≡ Ok c → Ok c ≡ starts_to s z m 0 r
+  starts_begun c r e = sym e ∙ starts_none r
+
+  pub starts_stay : (n : ℕ) (f : Failure) (r y : Judgement) → r ≡ Err f → y ≡ Err f → y ≡ starts_to s z m n r
+  unfolding starts_to
+  starts_stay n f r y e v = v ∙ sym (judged_err _ f) ∙ ap (λ (x : Judgement). starts_to s z m n x) (sym e)
+
   pub starts_all : (n : ℕ) (r q : Judgement) → n ≡ z.threads → q ≡ starts_to s z m n r → q ≡ starts_to s z m z.threads r
   starts_all n r q e d = rw e at d
 
@@ -214,6 +221,13 @@ module _ (s : List ℕ) (z : Sizes) (m : Marks) where
   pub steps_none : (r : Judgement) → r ≡ steps_to s z m 0 r
   unfolding steps_to judged
   steps_none r = refl
+
+  pub steps_begun : (c : ℕ) (r : Judgement) → r ≡ Ok c → Ok c ≡ steps_to s z m 0 r
+  steps_begun c r e = sym e ∙ steps_none r
+
+  pub steps_stay : (n : ℕ) (f : Failure) (r y : Judgement) → r ≡ Err f → y ≡ Err f → y ≡ steps_to s z m n r
+  unfolding steps_to
+  steps_stay n f r y e v = v ∙ sym (judged_err _ f) ∙ ap (λ (x : Judgement). steps_to s z m n x) (sym e)
 
   pub steps_all : (n : ℕ) (r q : Judgement) → n ≡ z.threads → q ≡ steps_to s z m n r → q ≡ steps_to s z m z.threads r
   steps_all n r q e d = rw e at d
@@ -326,6 +340,13 @@ module _ (s : List ℕ) (z : Sizes) (m : Marks) where
   unfolding interferences_to judged
   interferences_none r = refl
 
+  pub interferences_begun : (c : ℕ) (r : Judgement) → r ≡ Ok c → Ok c ≡ interferences_to s z m 0 r
+  interferences_begun c r e = sym e ∙ interferences_none r
+
+  pub interferences_stay : (n : ℕ) (f : Failure) (r y : Judgement) → r ≡ Err f → y ≡ Err f → y ≡ interferences_to s z m n r
+  unfolding interferences_to
+  interferences_stay n f r y e v = v ∙ sym (judged_err _ f) ∙ ap (λ (x : Judgement). interferences_to s z m n x) (sym e)
+
   pub interferences_all : (n : ℕ) (r q : Judgement) → n ≡ z.threads → q ≡ interferences_to s z m n r
       → q ≡ interferences_to s z m z.threads r
   interferences_all n r q e d = rw e at d
@@ -350,25 +371,9 @@ module _ (s : List ℕ) (z : Sizes) (m : Marks) where
       judged_append (starts P) (steps P ++ interferences P) (Ok 0)
       ∙ judged_append (steps P) (interferences P) (judged s z m (starts P) (Ok 0))
 
-  steps_err : (f : Failure) → steps_to s z m z.threads (Err f) ≡ Err f
-  unfolding steps_to
-  steps_err f = judged_err _ f
-
-  interferences_err : (f : Failure) → interferences_to s z m z.threads (Err f) ≡ Err f
-  unfolding interferences_to
-  interferences_err f = judged_err _ f
-
-  module _ (a : Judgement) (ea : a ≡ starts_to s z m z.threads (Ok 0)) where
-    pub all_starts : (f : Failure) → a ≡ Err f → Err f ≡ judge_at s z m (obligations P) 0
-    all_starts f h = rw (all_split, ← ea, h, steps_err f, interferences_err f)
-
-    module _ (c : ℕ) (ha : a ≡ Ok c) (b : Judgement) (eb : b ≡ steps_to s z m z.threads (Ok c)) where
-      pub all_steps : (f : Failure) (y : Judgement) → b ≡ Err f → y ≡ Err f → y ≡ judge_at s z m (obligations P) 0
-      all_steps f y h v = v ∙ rw (all_split, ← ea, ha, ← eb, h, interferences_err f)
-
-      pub all_judged : (d : ℕ) (q : Judgement) → b ≡ Ok d → q ≡ interferences_to s z m z.threads (Ok d)
-          → q ≡ judge_at s z m (obligations P) 0
-      all_judged d q h eq = rw (all_split, ← ea, ha, ← eb, h) eq
+  pub all_judged : (a b q : Judgement) → a ≡ starts_to s z m z.threads (Ok 0) → b ≡ steps_to s z m z.threads a
+      → q ≡ interferences_to s z m z.threads b → q ≡ judge_at s z m (obligations P) 0
+  all_judged a b q ea eb e = rw (all_split, ← ea, ← eb) e
 
 -- y and w: the image's bytes and sizes, as they are counted
 pub all_counted : (s y : List ℕ) (z w : Sizes) (m : Marks) (q : Judgement) → y ≡ s → w ≡ z
@@ -377,11 +382,11 @@ all_counted s y z w m q e d h = rw (← e, ← d) h
 
 pub ruleset instructions = (own_branch, own_taken, own_act, acting_branch, acting_act, tests)
 
-pub ruleset starts_loop = (starts_none, starts_more, starts_fail, starts_all)
+pub ruleset starts_loop = (starts_begun, starts_stay, starts_more, starts_fail, starts_all)
 
 pub ruleset own_loop = (own_none, own_more, own_fail, own_all)
 
-pub ruleset steps_loop = (steps_none, steps_more, steps_fail, steps_all)
+pub ruleset steps_loop = (steps_begun, steps_stay, steps_more, steps_fail, steps_all)
 
 pub ruleset asserted_loop = (assertions_self, asserted_none, asserted_more, asserted_last, asserted_fail, asserted_all)
 
@@ -389,6 +394,6 @@ pub ruleset assertions_loop = (assertions_none, assertions_more, assertions_fail
 
 pub ruleset actions_loop = (actions_none, actions_more, actions_fail, actions_all)
 
-pub ruleset interferences_loop = (interferences_none, interferences_more, interferences_fail, interferences_all)
+pub ruleset interferences_loop = (interferences_begun, interferences_stay, interferences_more, interferences_fail, interferences_all)
 
-pub ruleset all_judged_branches = (all_starts, all_steps, all_judged, all_counted)
+pub ruleset all_judged_branches = (all_judged, all_counted)

@@ -1,5 +1,6 @@
 // Interference freedom: each assertion under the actions of the other threads, by acting thread, acting point, asserting thread, asserting
-// point. Every function takes how many obligations are met so far, and returns how many are met with its own, or the first that is not.
+// point. The public function takes the judgement so far, which stays once an obligation is not met; the others take how many are met so far.
+// Each returns how many are met with its own, or the first that is not.
 ghost use Rattle.std.specs.Prelude.{◌≡◌, Ok};
 ghost use Rattle.image_frames.specs.Records.{bodies};
 ghost use Rattle.image_header.specs.Thread.{last_point};
@@ -99,10 +100,14 @@ fn judge_actor(certificate: &Certificate, t: usize, before: usize) -> Result<usi
 
 // Judges all obligations of class 4.
 #[tactic(auto, using(crate::proofs::GroupBranches::interferences_loop))]
-pub fn judge_interferences(certificate: &Certificate, before: usize) -> Result<usize, Failure>
+pub fn judge_interferences(
+    certificate: &Certificate,
+    judgement: Result<usize, Failure>,
+) -> Result<usize, Failure>
     ensures { result ≡ interferences_to certificate.now.records.now.image.now certificate.now.records.now.sizes
-        (as_marks certificate.now.marks.now) certificate.now.records.now.sizes.threads (Ok before) }
+        (as_marks certificate.now.marks.now) certificate.now.records.now.sizes.threads judgement }
 {
+    let before = judgement?;
     let mut count = before;
     for t in 1..=usize::from(certificate.records.sizes.threads) {
         count = judge_actor(certificate, t, count)?;

@@ -1,5 +1,6 @@
-// The obligations of classes 1 to 3: starts, then steps and branches taken, by thread and point. Every function takes how many
-// obligations are met so far, and returns how many are met with its own, or the first that is not.
+// The obligations of classes 1 to 3: starts, then steps and branches taken, by thread and point. A public function takes the
+// judgement so far, which stays once an obligation is not met; the others take how many are met so far. Each returns how many are met with
+// its own, or the first that is not.
 ghost use Rattle.std.specs.Prelude.{◌≡◌, Ok};
 ghost use Rattle.image_frames.specs.Records.{bodies};
 ghost use Rattle.image_header.specs.Thread.{last_point};
@@ -16,10 +17,14 @@ use verdict_record::obligation::Obligation;
 
 // Judges the obligations of class 1: start gives each thread's point 0.
 #[tactic(auto, using(crate::proofs::GroupBranches::starts_loop))]
-pub fn judge_starts(certificate: &Certificate, before: usize) -> Result<usize, Failure>
+pub fn judge_starts(
+    certificate: &Certificate,
+    judgement: Result<usize, Failure>,
+) -> Result<usize, Failure>
     ensures { result ≡ starts_to certificate.now.records.now.image.now certificate.now.records.now.sizes
-        (as_marks certificate.now.marks.now) certificate.now.records.now.sizes.threads (Ok before) }
+        (as_marks certificate.now.marks.now) certificate.now.records.now.sizes.threads judgement }
 {
+    let before = judgement?;
     let mut count = before;
     for t in 1..=usize::from(certificate.records.sizes.threads) {
         count = judge_one(certificate, Obligation::Start { thread: t }, count)?;
@@ -65,10 +70,14 @@ fn judge_thread(certificate: &Certificate, t: usize, before: usize) -> Result<us
 
 // Judges the obligations of classes 2 and 3, of all threads.
 #[tactic(auto, using(crate::proofs::GroupBranches::steps_loop))]
-pub fn judge_steps(certificate: &Certificate, before: usize) -> Result<usize, Failure>
+pub fn judge_steps(
+    certificate: &Certificate,
+    judgement: Result<usize, Failure>,
+) -> Result<usize, Failure>
     ensures { result ≡ steps_to certificate.now.records.now.image.now certificate.now.records.now.sizes
-        (as_marks certificate.now.marks.now) certificate.now.records.now.sizes.threads (Ok before) }
+        (as_marks certificate.now.marks.now) certificate.now.records.now.sizes.threads judgement }
 {
+    let before = judgement?;
     let mut count = before;
     for t in 1..=usize::from(certificate.records.sizes.threads) {
         count = judge_thread(certificate, t, count)?;

@@ -90,7 +90,12 @@ module _ (s t : List ℕ) (thread point : ℕ) (p : Premises) (n : ℕ) (all : O
       pub from_more : (w : Whole) → m ≡ Some w → Rest w.tpl (forms / 4) (j + 1) w.bind
       from_more w o = let d : n - (j + 1) ≡ n - suc j = omega arith in rw d (rw o at step)
 
-pub ruleset match_from_branches = (from_none, from_no, from_more)
+-- the beginning: what is left is the whole match
+pub from_start : (s t : List ℕ) (thread point : ℕ) (p : Premises) (n i forms j : ℕ) (b : Bind)
+    → Rest s t thread point p (j + n) (match_from s t thread point p n i forms j b) i forms j b
+from_start s t thread point p n i forms j b = let d : j + n - j ≡ n = omega arith in rw d
+
+pub ruleset match_from_branches = (from_start, from_none, from_no, from_more)
 
 pub ruleset conclusion_branches = (
   placed_other,

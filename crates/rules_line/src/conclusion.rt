@@ -1,9 +1,9 @@
 // What lines conclude, with their formulas by position in the image, matched against a rule's templates.
 #![tactic(auto, using(crate::proofs::ConclusionBranches::conclusion_branches))]
 
-ghost use Rattle.std.specs.Prelude.{◌≡◌};
+ghost use Rattle.std.specs.Prelude.{◌≡◌, ◌+◌, ◌<◌};
 ghost use Rattle.formula_trees.specs.StatementTree.{acted};
-ghost use Rattle.rules_line.specs.Conclusion.{placed_at, match_conclusion, conclusion_at};
+ghost use Rattle.rules_line.specs.Conclusion.{placed_at, match_conclusion, conclusion_at, match_from};
 ghost use Rattle.rules_table.specs.RuleTable.{form_number};
 
 use formula_match::bind::Bind;
@@ -90,4 +90,41 @@ pub fn conclusion_at(premises: &Premises, j: usize) -> Conclusion
     } else {
         NO_CONCLUSION
     }
+}
+
+// Matches `left` premises from premise `j` on, each against the templates that follow those of the one before; `forms` has their forms, two
+// bits each from the lowest. The bound on `j + left` keeps the sum from overflowing.
+// Image, templates and place stay apart, as in `match_conclusion`: the place alone changes from premise to premise.
+#[tactic(auto, using(crate::proofs::ConclusionBranches::match_from_branches))]
+pub fn match_from(
+    image: &[u8],
+    templates: &[u8],
+    i: usize,
+    forms: u8,
+    thread: usize,
+    point: usize,
+    premises: &Premises,
+    j: usize,
+    left: usize,
+    bind: Bind,
+) -> Option<Whole>
+    requires { j + left < 1000 }
+    ensures { result ≡ match_from image.now templates.now thread point premises.now left i forms j bind }
+{
+    let mut m = Whole { tpl: i, bind };
+    let mut rest = forms;
+    for k in j..j + left {
+        m = match_conclusion(
+            image,
+            templates,
+            m.tpl,
+            Form::from_bits(rest % 4),
+            thread,
+            point,
+            conclusion_at(premises, k),
+            m.bind,
+        )?;
+        rest /= 4;
+    }
+    Some(m)
 }

@@ -2,10 +2,9 @@
 #![tactic(auto, using(crate::proofs::PremiseBranches::premises_branches))]
 
 ghost use Rattle.std.specs.Prelude.{◌≡◌};
-ghost use Rattle.rules_line.specs.Conclusion.{match_from};
 ghost use Rattle.rules_line.specs.Premises.{premise_conclusion, premises_of, is_implication_at, all_implications, match_premises};
 
-use crate::conclusion::{Conclusion, NO_CONCLUSION, Premises, conclusion_at, match_conclusion};
+use crate::conclusion::{Conclusion, NO_CONCLUSION, Premises, conclusion_at, match_from};
 use crate::line_conclusion::conclusion_of;
 use formula_match::bind::Bind;
 use formula_match::matching_whole::Whole;
@@ -65,41 +64,6 @@ fn all_implications(premises: &Premises) -> bool
         && is_implication(premises, 3)
 }
 
-// Matches the premises against the templates from `i` on, each against those that follow the ones of the premise before; `forms` has their
-// forms, two bits each from the lowest.
-// Image, templates and place stay apart, as in `match_conclusion`: the place alone changes from premise to premise.
-#[tactic(auto, using(crate::proofs::ConclusionBranches::match_from_branches))]
-fn match_listed(
-    image: &[u8],
-    templates: &[u8],
-    i: usize,
-    forms: u8,
-    thread: usize,
-    point: usize,
-    premises: &Premises,
-    bind: Bind,
-) -> Option<Whole>
-    ensures { result
-        ≡ match_from image.now templates.now thread point premises.now premises.now.count i forms 0 bind }
-{
-    let mut m = Whole { tpl: i, bind };
-    let mut rest = forms;
-    for j in 0..usize::from(premises.count) {
-        m = match_conclusion(
-            image,
-            templates,
-            m.tpl,
-            Form::from_bits(rest % 4),
-            thread,
-            point,
-            conclusion_at(premises, j),
-            m.bind,
-        )?;
-        rest /= 4;
-    }
-    Some(m)
-}
-
 // Matches the premises against the templates from `i` on: as many as the rule has, each of its form; of rule 20 any implications.
 pub fn match_premises(
     image: &[u8],
@@ -123,7 +87,16 @@ pub fn match_premises(
     if rule.premises != premises.count {
         return None;
     }
-    match_listed(
-        image, templates, i, rule.forms, thread, point, premises, bind,
+    match_from(
+        image,
+        templates,
+        i,
+        rule.forms,
+        thread,
+        point,
+        premises,
+        0,
+        usize::from(premises.count),
+        bind,
     )
 }

@@ -5,9 +5,8 @@ use Prim.Native.Nat.{ℕ, zero, suc, ◌+◌, ◌-◌, ◌≤◌, ◌<◌}
 use native.Mathlib.Nat.{add-zero}
 use native.Mathlib.Numerals.{add-one}
 use native.Mathlib.Omega.{arith}
-use lib.ListN.{length, set, take, drop, length-append, length-drop, take-append-drop}
-use borrow.Rule.Slice.PartMut.{put_mid}
-use lib.Seq.{length-take-le, take_at, take-take, take-append-le, drop_at, drop-drop, sets-eq}
+use lib.ListN.{length, get_or, set, take, drop, length-append, length-drop, take-append-drop}
+use lib.Seq.{length-take-le, take_at, take-take, take-append-le, take-suc, take_all, drop_at, drop-drop, sets-eq}
 use Rattle.verdict_record.specs.Record.{two}
 use Rattle.trim_spec.specs.Encode.{framed, entry}
 use Rattle.trim_encode.specs.Writing.{overwritten, Puts, Room, Begun, Finished}
@@ -52,6 +51,10 @@ pub put_over : {u v : Writer} {x : List ℕ} → Puts u v x → v.out.now ≡ ov
 unfolding overwritten
 put_over {u} {v} {x} p =
     sym (take-append-drop v.at v.out.now) ∙ (rw (p.written, p.behind, append_assoc (take u.at u.out.now) x (drop (u.at + length x) u.out.now)))
+
+over_is : (o : List ℕ) (p : ℕ) (x : List ℕ) → overwritten o p x ≡ take p o ++ (x ++ drop (p + length x) o)
+unfolding overwritten
+over_is o p x = refl
 
 module _ (o : List ℕ) (p : ℕ) (x : List ℕ) (room : p + length x ≤ length o) where
   front : length (take p o ++ x) ≡ p + length x
@@ -106,14 +109,53 @@ over_put u v x room same now end = record {
   long = rw now (over_length u.out.now u.at x room);
 }
 
--- one byte, and a copy
+-- one byte
 pub byte_over : (o : List ℕ) (p x : ℕ) → p + 1 ≤ length o → set o p x ≡ overwritten o p (x ∷ [])
 unfolding overwritten
 byte_over o p x h = sets-eq (x ∷ []) o p h ∙ append_assoc (take p o) (x ∷ []) (drop (p + 1) o)
 
-pub copy_over : (o b y : List ℕ) (p : ℕ) → y ≡ b → put_mid p (p + length b - p) o y ≡ overwritten o p b
-unfolding overwritten
-copy_over o b y p e = let q : p + length b - p ≡ length b = omega arith in rw (q, e, drop-drop (length b) p o)
+-- what is written behind what was written in front of it
+over_behind : (o : List ℕ) (p : ℕ) (x y : List ℕ) → p + (length x + length y) ≤ length o
+    → overwritten (overwritten o p x) (p + length x) y ≡ overwritten o p (x ++ y)
+over_behind o p x y h =
+    let q : p + length x ≤ length o = omega arith in
+    let e : p + length x + length y ≡ p + (length x + length y) = omega arith in
+    let d : drop (p + length x + length y) (overwritten o p x) ≡ drop (p + length x + length y) o =
+    sym (drop-drop (length y) (p + length x) (overwritten o p x)) ∙ ap (drop (length y)) (over_drop o p x q)
+    ∙ drop-drop (length y) (p + length x) o in
+    over_is (overwritten o p x) (p + length x) y
+    ∙ (rw (
+      over_take o p x q,
+      d,
+      e,
+      over_is o p (x ++ y),
+      length-append x y,
+      append_assoc (take p o) x (y ++ drop (p + (length x + length y)) o),
+      append_assoc x y (drop (p + (length x + length y)) o),
+    ))
+
+-- a copy, byte by byte
+module _ (b o : List ℕ) (p : ℕ) where
+  pub copy_none : o ≡ overwritten o p (take 0 b)
+  unfolding overwritten
+  copy_none = sym (rw (add-zero p) (take-append-drop p o))
+
+  module _ (w : List ℕ) (i : ℕ) (e : w ≡ overwritten o p (take i b)) where
+    pub copy_more : i < length b → p + length b ≤ length o → set w (p + i) (get_or b i 0) ≡ overwritten o p (take (i + 1) b)
+    copy_more lt h =
+        let le : i ≤ length b = omega arith in
+        let l : length (take i b) ≡ i = length-take-le i b le in
+        let m : p + (length (take i b) + 1) ≤ length o = rw l (omega arith) in
+        let n : p + length (take i b) ≤ length o = rw l (omega arith) in
+        let k : p + i + 1 ≤ length w = rw (e, over_length o p (take i b) n) (omega arith) in
+        let g : overwritten (overwritten o p (take i b)) (p + i) (get_or b i 0 ∷ []) ≡ overwritten o p (take i b ++ (get_or b i 0 ∷ [])) =
+        rw l at (over_behind o p (take i b) (get_or b i 0 ∷ []) m) in
+        byte_over w (p + i) (get_or b i 0) k ∙ (rw (e, g, add-one i, take-suc b i 0 lt))
+
+    pub copy_all : length b ≤ i → w ≡ overwritten o p b
+    copy_all h = e ∙ ap (overwritten o p) (take_all i b h)
+
+pub ruleset copying = (copy_none, copy_more, copy_all)
 
 pub written_whole : (u v : Writer) (x : List ℕ) → u.at ≡ 0 → Puts u v x → v.out.now ≡ x ++ drop (length x) u.out.now
 unfolding overwritten

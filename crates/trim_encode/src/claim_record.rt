@@ -5,14 +5,14 @@ ghost use Rattle.trim_spec.specs.Parse.{claim_record};
 ghost use Rattle.trim_encode.specs.Renumbered.{renewed_claim};
 ghost use Rattle.trim_encode.specs.Writing.{Puts, Room};
 
-use crate::numbering::Renumbering;
+use crate::numbering::new_number;
 use crate::writer::Writer;
 use limits::read::{u8_at, u16_at};
 
-// Writes a claim's body: its threads and points as they are, its line by the new number.
-pub fn put_claim(lines: &Renumbering, body: &[u8], writer: &mut Writer)
-    requires { Room writer.old (length (claim_bytes (renewed_claim lines.now.numbers.now (claim_record body.now)))) }
-    ensures { Puts writer.old writer.new (claim_bytes (renewed_claim lines.now.numbers.now (claim_record body.now))) }
+// Writes a claim's body: its threads and points as they are, its line by the table of new numbers.
+pub fn put_claim(lines: &[usize], body: &[u8], writer: &mut Writer)
+    requires { Room writer.old (length (claim_bytes (renewed_claim lines.now (claim_record body.now)))) }
+    ensures { Puts writer.old writer.new (claim_bytes (renewed_claim lines.now (claim_record body.now))) }
 {
     let line = u16_at(body, 4);
     writer.put_byte(u8_at(body, 0));
@@ -20,6 +20,6 @@ pub fn put_claim(lines: &Renumbering, body: &[u8], writer: &mut Writer)
         u8_at(body, 1),
         u8_at(body, 2),
         u8_at(body, 3),
-        lines.new_number(line),
+        new_number(lines, line),
     );
 }

@@ -2,6 +2,7 @@
 #![tactic(auto)]
 
 // A well-formed image and its sizes.
+pub mod recorded;
 pub mod well_formed;
 
 // Marks by number, the new numbers that they give, and the length of the trimmed image.

@@ -5,11 +5,11 @@ ghost use Rattle.std.specs.Prelude.{◌≡◌, false, suc, ◌<◌, replicate};
 ghost use Rattle.limits.specs.Limits.{formulas};
 ghost use Rattle.image_frames.specs.Records.{bodies};
 ghost use Rattle.trim_spec.specs.Live.{marked_by, instruction_formulas, kept, used};
+ghost use Rattle.trim_spec.specs.Parse.{document_of};
 ghost use Rattle.trim_encode.specs.NamedNumbers.{body_formulas, thread_formulas, sides_of, marked_sides, marked_formulas};
-ghost use Rattle.trim_encode.specs.Said.{said};
 
 use crate::marks::{is_marked, mark_number, mark_numbers};
-use crate::well_formed::WellFormed;
+use crate::recorded::Recorded;
 use image_bodies::point_counts::point_counts_of;
 use image_header::instruction::Instruction;
 use image_header::thread::{begins_behind, instruction_from, last_point};
@@ -35,7 +35,7 @@ fn mark_thread(body: &[u8], marks: &mut [bool])
 }
 
 // Marks the formulas of the instructions of all threads.
-fn mark_threads(image: &WellFormed, marks: &mut [bool])
+fn mark_threads(image: &Recorded, marks: &mut [bool])
     ensures { marks.new ≡ marked_by marks.old (thread_formulas image.now.sizes (bodies image.now.indexed.now) 0) }
 {
     for t in 0..usize::from(image.sizes.threads) {
@@ -46,8 +46,8 @@ fn mark_threads(image: &WellFormed, marks: &mut [bool])
     }
 }
 
-fn mark_outline(image: &WellFormed, marks: &mut [bool])
-    ensures { marks.new ≡ marked_by marks.old (said image.now).outline }
+fn mark_outline(image: &Recorded, marks: &mut [bool])
+    ensures { marks.new ≡ marked_by marks.old (document_of image.now.sizes (bodies image.now.indexed.now)).outline }
 {
     let sizes = image.sizes;
     let before = usize::from(sizes.formulas) + usize::from(sizes.threads);
@@ -65,7 +65,7 @@ fn mark_sides(body: &[u8], marks: &mut [bool])
 }
 
 // Marks the formulas of line `number`, if it is live.
-fn mark_line(image: &WellFormed, live_lines: &[bool], number: usize, marks: &mut [bool])
+fn mark_line(image: &Recorded, live_lines: &[bool], number: usize, marks: &mut [bool])
     requires { number < 65536 }
     ensures { marks.new ≡ marked_by marks.old (marked_sides image.now.sizes (bodies image.now.indexed.now)
         live_lines.now number) }
@@ -79,7 +79,7 @@ fn mark_line(image: &WellFormed, live_lines: &[bool], number: usize, marks: &mut
 }
 
 // Marks the formulas of all live lines.
-fn mark_lines(image: &WellFormed, live_lines: &[bool], marks: &mut [bool])
+fn mark_lines(image: &Recorded, live_lines: &[bool], marks: &mut [bool])
     ensures { marks.new ≡ marked_by marks.old (marked_formulas image.now.sizes (bodies image.now.indexed.now)
         live_lines.now 0) }
 {
@@ -89,9 +89,9 @@ fn mark_lines(image: &WellFormed, live_lines: &[bool], marks: &mut [bool])
 }
 
 // Marks the live formulas; no mark is set before, and `live_lines` marks the live lines.
-pub fn mark_live_formulas(image: &WellFormed, live_lines: &[bool], marks: &mut [bool])
-    requires { (live_lines.now ≡ kept (said image.now)) × (marks.old ≡ replicate (suc formulas) false) }
-    ensures { marks.new ≡ used (said image.now) }
+pub fn mark_live_formulas(image: &Recorded, live_lines: &[bool], marks: &mut [bool])
+    requires { (live_lines.now ≡ kept (document_of image.now.sizes (bodies image.now.indexed.now))) × (marks.old ≡ replicate (suc formulas) false) }
+    ensures { marks.new ≡ used (document_of image.now.sizes (bodies image.now.indexed.now)) }
 {
     mark_threads(image, marks);
     mark_outline(image, marks);

@@ -6,18 +6,18 @@ ghost use Rattle.limits.specs.Limits.{lines};
 ghost use Rattle.image_frames.specs.Records.{bodies};
 ghost use Rattle.image_bodies.specs.Line.{premises};
 ghost use Rattle.trim_spec.specs.Live.{marked_by, kept_to, kept};
+ghost use Rattle.trim_spec.specs.Parse.{document_of};
 ghost use Rattle.trim_encode.specs.NamedNumbers.{claim_lines, with_premises};
-ghost use Rattle.trim_encode.specs.Said.{said};
 
 use crate::marks::{is_marked, mark_number, mark_numbers};
-use crate::well_formed::WellFormed;
+use crate::recorded::Recorded;
 use image_access::claim::claim_of;
 use image_bodies::point_counts::count_obligations;
 use limits::read::{byte_at, rest};
 
 // Marks the lines that obligations name.
-fn mark_obligations(image: &WellFormed, marks: &mut [bool])
-    ensures { marks.new ≡ marked_by marks.old (said image.now).obligations }
+fn mark_obligations(image: &Recorded, marks: &mut [bool])
+    ensures { marks.new ≡ marked_by marks.old (document_of image.now.sizes (bodies image.now.indexed.now)).obligations }
 {
     let sizes = image.sizes;
     let body = image.indexed.body_of(
@@ -27,7 +27,7 @@ fn mark_obligations(image: &WellFormed, marks: &mut [bool])
 }
 
 // Marks the lines that claims name.
-fn mark_claims(image: &WellFormed, marks: &mut [bool])
+fn mark_claims(image: &Recorded, marks: &mut [bool])
     ensures { marks.new ≡ marked_by marks.old (claim_lines image.now.sizes (bodies image.now.indexed.now)) }
 {
     for i in 0..usize::from(image.sizes.claims) {
@@ -44,7 +44,7 @@ fn mark_premises(body: &[u8], marks: &mut [bool])
 }
 
 // Marks the premises of line `number`, if it is marked itself.
-fn mark_line(image: &WellFormed, number: usize, marks: &mut [bool])
+fn mark_line(image: &Recorded, number: usize, marks: &mut [bool])
     requires { number < 65536 }
     ensures { marks.new ≡ with_premises image.now.sizes (bodies image.now.indexed.now) number marks.old }
 {
@@ -57,8 +57,8 @@ fn mark_line(image: &WellFormed, number: usize, marks: &mut [bool])
 }
 
 // Marks the premises of marked lines, from the last line down: premises have lower numbers, so one pass reaches them all.
-fn mark_lines(image: &WellFormed, marks: &mut [bool])
-    ensures { marks.new ≡ kept_to (said image.now).lines image.now.sizes.lines
+fn mark_lines(image: &Recorded, marks: &mut [bool])
+    ensures { marks.new ≡ kept_to (document_of image.now.sizes (bodies image.now.indexed.now)).lines image.now.sizes.lines
         marks.old }
 {
     for n in (0..usize::from(image.sizes.lines)).rev() {
@@ -67,9 +67,9 @@ fn mark_lines(image: &WellFormed, marks: &mut [bool])
 }
 
 // Marks the live lines; no mark is set before.
-pub fn mark_live_lines(image: &WellFormed, marks: &mut [bool])
+pub fn mark_live_lines(image: &Recorded, marks: &mut [bool])
     requires { marks.old ≡ replicate (suc lines) false }
-    ensures { marks.new ≡ kept (said image.now) }
+    ensures { marks.new ≡ kept (document_of image.now.sizes (bodies image.now.indexed.now)) }
 {
     mark_obligations(image, marks);
     mark_claims(image, marks);

@@ -16,18 +16,24 @@ pub struct Renumbering<'a> {
 }
 
 impl<'a> Renumbering<'a> {
-    // The new number of `number`. A number past the table gets its last entry, so that no caller has to show that it is in the table.
+    // The new number of `number`.
     pub fn new_number(&self, number: usize) -> usize
         ensures { result ≡ renewed self.now.numbers.now number }
     {
-        let numbers = self.numbers;
-        if number < numbers.len() {
-            numbers[number]
-        } else if numbers.len() == 0 {
-            0
-        } else {
-            numbers[numbers.len() - 1]
-        }
+        new_number(self.numbers, number)
+    }
+}
+
+// The new number of `number` by a table. A number past the table gets its last entry, so that no caller has to show that it is in the table.
+pub fn new_number(numbers: &[usize], number: usize) -> usize
+    ensures { result ≡ renewed numbers.now number }
+{
+    if number < numbers.len() {
+        numbers[number]
+    } else if numbers.len() == 0 {
+        0
+    } else {
+        numbers[numbers.len() - 1]
     }
 }
 

@@ -10,6 +10,7 @@ use crate::answer::Untrimmed;
 use crate::live_formulas::mark_live_formulas;
 use crate::live_lines::mark_live_lines;
 use crate::numbering::{Renumbering, fill_numbers};
+use crate::recorded::Recorded;
 use crate::trimmed_length::trimmed_length;
 use crate::trimming::Trimming;
 use crate::well_formed::WellFormed;
@@ -23,14 +24,18 @@ pub fn trim_accepted(image: &Indexed, sizes: Sizes, out: &mut [u8]) -> Result<us
     ensures { (result ≡ answered_by (trimmed_bytes sizes image.now) out.old)
         × (out.new ≡ buffer_by (trimmed_bytes sizes image.now) out.old) }
 {
-    let image = WellFormed {
+    let records = Recorded {
         indexed: image,
         sizes,
     };
     let mut live_lines = [false; Limits::LINES + 1];
-    mark_live_lines(&image, &mut live_lines);
+    mark_live_lines(&records, &mut live_lines);
     let mut live_formulas = [false; Limits::FORMULAS + 1];
-    mark_live_formulas(&image, &live_lines, &mut live_formulas);
+    mark_live_formulas(&records, &live_lines, &mut live_formulas);
+    let image = WellFormed {
+        indexed: image,
+        sizes,
+    };
     let length = trimmed_length(&image, &live_lines, &live_formulas);
     if out.len() < length {
         return Err(Untrimmed::Short);

@@ -22,9 +22,9 @@ impl Trimming<'_, '_, '_> {
         ensures { Puts writer.old writer.new (body_in self.now kind body.now) }
     {
         match kind {
-            Kind::THREAD => put_thread(&self.formulas, body, writer),
-            Kind::LINE => put_line(&self.formulas, &self.lines, body, writer),
-            Kind::CLAIM => put_claim(&self.lines, body, writer),
+            Kind::THREAD => put_thread(self.formulas.numbers, body, writer),
+            Kind::LINE => put_line(self.formulas.numbers, self.lines.numbers, body, writer),
+            Kind::CLAIM => put_claim(self.lines.numbers, body, writer),
             _ => writer.put_bytes(body),
         }
     }
@@ -54,7 +54,7 @@ impl Trimming<'_, '_, '_> {
     {
         let body = self.image.indexed.body_of(place);
         let start = writer.begin();
-        writer.put_numbers(renumbering, body, count);
+        writer.put_numbers(renumbering.numbers, body, count);
         writer.finish(start, kind);
     }
 

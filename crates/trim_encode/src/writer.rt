@@ -4,10 +4,22 @@ ghost use Rattle.limits.specs.Numbers.{numbers};
 ghost use Rattle.verdict_record.specs.Record.{two};
 ghost use Rattle.trim_spec.specs.Encode.{number_bytes};
 ghost use Rattle.trim_encode.specs.Renumbered.{renewed};
-ghost use Rattle.trim_encode.specs.Writing.{Puts, Room, Begun, Finished};
+ghost use Rattle.trim_encode.specs.Writing.{overwritten, Puts, Room, Begun, Finished};
 
-use crate::numbering::Renumbering;
+use crate::numbering::new_number;
 use limits::read::number_at;
+
+// Copies `body` to the buffer, from position `at` on. No `copy_from_slice`: it may become a call of memmove, and the archive for C is to
+// need memcpy and memset alone.
+#[tactic(auto, using(crate::proofs::Writes::copying, limits::proofs::BranchTests::tests))]
+fn copy_to(body: &[u8], out: &mut [u8], at: usize)
+    requires { at + length body.now ≤ length out.old }
+    ensures { out.new ≡ overwritten out.old at body.now }
+{
+    for i in 0..body.len() {
+        out[at + i] = body[i];
+    }
+}
 
 // The buffer, and the position of the next byte.
 #[derive(Drop)]
@@ -60,18 +72,17 @@ impl<'a> Writer<'a> {
         requires { Room self.old (length body.now) }
         ensures { Puts self.old self.new body.now }
     {
-        let end = self.at + body.len();
-        self.out[self.at..end].copy_from_slice(body);
-        self.at = end;
+        copy_to(body, self.out, self.at);
+        self.at += body.len();
     }
 
-    // Writes the new numbers of the first `n` 16-bit numbers in `body`.
-    pub(crate) fn put_numbers(&mut self, renumbering: &Renumbering, body: &[u8], n: usize)
-        requires { Room self.old (length (number_bytes (map (renewed renumbering.now.numbers.now) (numbers n body.now)))) }
-        ensures { Puts self.old self.new (number_bytes (map (renewed renumbering.now.numbers.now) (numbers n body.now))) }
+    // Writes the new numbers, by the table, of the first `n` 16-bit numbers in `body`.
+    pub(crate) fn put_numbers(&mut self, table: &[usize], body: &[u8], n: usize)
+        requires { Room self.old (length (number_bytes (map (renewed table.now) (numbers n body.now)))) }
+        ensures { Puts self.old self.new (number_bytes (map (renewed table.now) (numbers n body.now))) }
     {
         for i in 0..n {
-            self.put_u16(renumbering.new_number(number_at(body, n, i)));
+            self.put_u16(new_number(table, number_at(body, n, i)));
         }
     }
 

@@ -76,6 +76,14 @@ const LIMITS: &str = "limits/specs/Limits";
 fn codes() -> Vec<(&'static str, u32)> {
     let trim = "trim_encode/specs/Answer";
     let room = "(cond (adds (instr_at P s t) && leb room (used s P.words))";
+    // The numbers of trimming and of bills stand apart from the cases in which they are told.
+    assert_eq!(definition(trim, "answer_with s buffer None"), "Err NotAccepted");
+    let trimmed = definition(trim, "answered_by t buffer");
+    assert!(trimmed.ends_with("(Err Short) (Ok (length t))"), "{trimmed}");
+    let bill = definition(BILL, "bill_of s f n");
+    assert!(bill.ends_with("(Err NotAccepted)"), "{bill}");
+    let billed = definition(BILL, "billed f n os");
+    assert!(billed.starts_with("cond (eqb n last_number) (Err NumberAtEnd)"), "{billed}");
     vec![
         ("ACCEPTED", value(FIELDS, "fields_of (Accepted n) = gathered {} 0 nowhere 0 n")),
         (

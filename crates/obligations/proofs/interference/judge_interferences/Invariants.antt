@@ -8,4 +8,4 @@ use Rattle.obligations.proofs.interference.judge_interferences.Given as goal
 abbrev pub invariant-loop-t : goal.invariant-loop-t
 invariant-loop-t l =
     (l.t ≤ l.t-end + 1) × (Ok l.count ≡ interferences_to l.certificate.records.now.image.now l.certificate.records.now.sizes
-    (as_marks l.certificate.marks.now) (l.t - 1) (Ok l.fn.before))
+    (as_marks l.certificate.marks.now) (l.t - 1) l.fn.judgement)

@@ -1,6 +1,12 @@
 use native.Mathlib.Omega.{arith}
-use Rattle.trim_encode.proofs.TrimBranches.{lengths, room, trimmed_room, trimmed_written, done_answer}
+use Rattle.trim_encode.proofs.TrimBranches.{lengths, records_all, room, trimmed_room, trimmed_written, done_answer}
 use Rattle.trim_encode.proofs.trim_accepted.trim_accepted.Goals as goal
+
+pub invariant_of-records : goal.invariant_of-records
+invariant_of-records c = record {
+  records = records_all _ _ c.requires;
+  in_range = record { formulas = omega arith; threads = omega arith; lines = omega arith; claims = omega arith };
+}
 
 pub invariant_of-image : goal.invariant_of-image
 invariant_of-image c = record {
