@@ -2,16 +2,17 @@
 use Prim.Native.Nat.{ℕ, ◌-◌, ◌<◌}
 use mathlib.Core.Path.{◌≡◌, refl, sym}
 use mathlib.Core.List.{List}
-use mathlib.Core.Bool.{Bool, true, false, cond}
+use mathlib.Core.Bool.{Bool, true, false, not, cond}
 use native.Mathlib.Omega.{arith}
-use lib.Dec.{ltb}
+use lib.Dec.{ltb, eqb}
 use borrow.Author.Tests.{lt-ltb}
 use Rattle.std.specs.Prelude.{Option, Some, None}
 use Rattle.formula.specs.Tree.{Tree, none, node, ParsedTree, node_at, parse_tree}
 use Rattle.formula.specs.declared.node.Node.{Node}
 use Rattle.formula.proofs.NodeBranches.{parse_zero, parse_step}
 use Rattle.limits.proofs.BranchTests.{lower, tests}
-use Rattle.formula_compare.specs.Occurs.{is_queried, occurs, past_without}
+use Rattle.formula_compare.specs.Occurs.{owner_of, operand_numbered, is_sought, is_queried, occurs, past_without}
+use Rattle.formula_compare.specs.declared.occurs.Operand.TheVariants.{Any, Equal, Foreign}
 use Rattle.formula_compare.specs.declared.occurs.Query.{Query}
 
 occurs_node : (w : Query) (owners : List ℕ) (c o : ℕ) (l r : Tree)
@@ -70,6 +71,18 @@ module _ (w : Query) (owners : List ℕ) (s : List ℕ) (k at : ℕ) where
   pub found_nowhere : (f : Option ℕ) (m : ℕ) → f ≡ past_without w owners (parse_tree s k at) → f ≡ Some m
       → false ≡ occurs w owners (parse_tree s k at).tree
   found_nowhere f m e d = sym (said_past (occurs w owners (parse_tree s k at).tree) (parse_tree s k at).end m f e d).0
+
+-- every number of a kind seeks something: 0 any operand, 1 an equal one, each other one a register that the thread does not own
+pub sought_numbered : (k n : ℕ) (owners : List ℕ) (o : ℕ)
+    → is_sought (operand_numbered k n) owners o ≡ cond (eqb k 0) true (cond (eqb k 1) (eqb o n) (not (eqb (owner_of owners o) n)))
+unfolding operand_numbered
+sought_numbered k n owners o = go (eqb k 0) (eqb k 1)
+  where
+    go : (a b : Bool) → is_sought (cond a Any (cond b (Equal n) (Foreign n))) owners o
+        ≡ cond a true (cond b (eqb o n) (not (eqb (owner_of owners o) n)))
+    go true b = refl
+    go false true = refl
+    go false false = refl
 
 pub ruleset past_without_branches = (find_zero, find_here, find_leaf, find_part, find_one, find_two, lower)
 

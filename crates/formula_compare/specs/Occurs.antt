@@ -11,6 +11,11 @@ use Rattle.formula_compare.specs.declared.occurs.Operand.TheVariants.{Any, Equal
 unfoldable pub owner_of : List ℕ → ℕ → ℕ
 owner_of owners r = cond (eqb r 0) 0 (get_or owners (r - 1) 0)
 
+-- what is sought, by the number of its kind and a number or thread: 0 any operand, 1 an equal one, each other number a register that the
+-- thread does not own
+unfoldable pub operand_numbered : ℕ → ℕ → Operand
+operand_numbered k n = cond (eqb k 0) Any (cond (eqb k 1) (Equal n) (Foreign n))
+
 -- an operand that is sought: any, an equal one, or a register that a thread does not own
 abbrev pub is_sought : Operand → List ℕ → ℕ → Bool
 is_sought Any owners o = true

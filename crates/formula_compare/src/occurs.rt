@@ -3,7 +3,7 @@
 
 ghost use Rattle.std.specs.Prelude.{◌≡◌};
 ghost use Rattle.formula.specs.Tree.{parse_tree};
-ghost use Rattle.formula_compare.specs.Occurs.{owner_of, is_queried, past_without, occurs};
+ghost use Rattle.formula_compare.specs.Occurs.{owner_of, operand_numbered, is_queried, past_without, occurs};
 
 use formula::code::contains;
 use formula::node::node_at;
@@ -22,6 +22,21 @@ pub enum Operand {
     Any,
     Equal(u8),
     Foreign(u8),
+}
+
+impl Operand {
+    // What is sought, by its number and the number or thread that goes with it: 0 any, 1 this number, and every other one a register that
+    // this thread does not own. A caller that keeps the kind as a number can pass any number.
+    #[tactic(auto, using(limits::proofs::BranchTests::tests), unfolding(crate::specs::Occurs::operand_numbered))]
+    pub fn numbered(kind: u8, number: u8) -> Operand
+        ensures { result ≡ operand_numbered kind number }
+    {
+        match kind {
+            0 => Operand::Any,
+            1 => Operand::Equal(number),
+            _ => Operand::Foreign(number),
+        }
+    }
 }
 
 // The thread that owns a register; 0 where there is no such register.

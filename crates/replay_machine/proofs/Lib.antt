@@ -4,6 +4,7 @@ pub mod EffectBranches
 pub mod StateAgrees
 pub mod EffectAgrees
 pub mod InstructionEffect
+pub mod RefusalNumbers
 pub mod StepBranches
 pub mod RunBranches
 pub mod StartBranches

@@ -1,7 +1,7 @@
 -- The ways through the functions, one law for each that is not a chain of tests.
 use Prim.Native.Nat.{ℕ, ◌+◌, ◌-◌, ◌%◌, ◌≤◌, ◌<◌}
-use mathlib.Core.Path.{◌≡◌, refl, ap, ◌∙◌}
-use mathlib.Core.Bool.{Bool, true, false, cond}
+use mathlib.Core.Path.{◌≡◌, refl, ap, ap₂, sym, ◌∙◌}
+use mathlib.Core.Bool.{Bool, true, false, cond, true≢false}
 use mathlib.Core.List.{List, []}
 use lib.Dec.{eqb, ltb}
 use lib.ListN.{get_or, set}
@@ -27,13 +27,14 @@ use Rattle.replay_machine.specs.Locals.{registers_after, point_after}
 use Rattle.replay_machine.specs.declared.effect.Effect.{Effect}
 use Rattle.replay_machine.specs.declared.locals.Registers.{Registers}
 use Rattle.replay_machine.specs.State.{point_of, performed, machine_of}
-use Rattle.replay_machine.specs.Refusal.{number, code_of, total, adding, pick_refusal}
+use Rattle.replay_machine.specs.Refusal.{unnamed, number, code_of, total, adding, pick_refusal}
 use Rattle.replay_machine.specs.Pick.{uncovered_by, may_pick_by, refusal_by}
 use Rattle.replay_machine.specs.Step.{Stepped, value_at, effect_at, last_of, refused, attempted, stepped, taken_of}
 use Rattle.replay_machine.specs.declared.state.Machine.{Machine}
 use Rattle.replay_machine.specs.declared.state.Threads.{Threads}
 use Rattle.replay_machine.specs.declared.pick.Refusal.{Refusal}
-use Rattle.replay_machine.specs.declared.pick.Refusal.TheVariants.{Declined, Thread, Pick, Room, Unlike, OutOfRange, Unserved}
+use Rattle.replay_machine.specs.declared.pick.Refusal.TheVariants.{Declined, Thread, Pick, Room, Unlike, OutOfRange, Unserved, Other}
+use Rattle.replay_machine.proofs.RefusalNumbers.{some_unnamed}
 
 module _ (g : MemoryShape) (w : Write) (words room t p : ℕ) (d : Effect) (b : Bool) (e : b ≡ may_pick_by g w d t p) where
   pub pick_not : b ≡ false → code_of (Err Pick) ≡ refusal_by g w words room d t p
@@ -122,12 +123,25 @@ refused_some Room = refl
 refused_some Unlike = refl
 refused_some OutOfRange = refl
 refused_some Unserved = refl
+refused_some (Other n) = ne_eqb (unnamed n) 0 (some_unnamed n)
 
 -- the picked write is that of the memory
 refusal_same : (g : MemoryShape) (l : List Write) (words room t p : ℕ) (d : Effect)
     → refusal_by g (write_at (memory_of g l) d.word p) words room d t p ≡ pick_refusal (memory_of g l) words room d t p
 unfolding refusal_by may_pick_by uncovered_by pick_refusal may_pick uncovered reachable memory_of
 refusal_same g l words room t p d = refl
+
+-- so what is said from the picked write is said of the memory
+module _ (g : MemoryShape) (l : List Write) (t p : ℕ) (d : Effect) (w : Write) (e : w ≡ write_at (memory_of g l) d.word p) where
+  pub picked_may : (b : Bool) → b ≡ may_pick_by g w d t p → b ≡ may_pick (memory_of g l) d t p
+  unfolding may_pick_by uncovered_by may_pick uncovered reachable memory_of
+  picked_may b h = h ∙ rw e
+
+  pub picked_code : (words room : ℕ) (c : Result (Unit {0}) Refusal) → code_of c ≡ refusal_by g w words room d t p
+      → code_of c ≡ pick_refusal (memory_of g l) words room d t p
+  picked_code words room c h = h ∙ ap (λ (x : Write). refusal_by g x words room d t p) e ∙ refusal_same g l words room t p d
+
+pub ruleset pick_by_memory = (picked_may, picked_code)
 
 module _ (z : Sizes) (room : ℕ) (n : Threads) (b : List Write) (d : Effect) (t p : ℕ) (w : Write) (c : Result (Unit {0}) Refusal)
     (ew : w ≡ write_at (memory_of n.shape b) d.word p) (e : code_of c ≡ refusal_by n.shape w z.words room d t p) where
@@ -180,3 +194,13 @@ module _ (s : List ℕ) (z : Sizes) (room : ℕ) (n : Machine) where
       go false true c h = refl
       go false false true h = attempt_stays (effect_at s z n.registers t (point_of n (t - 1))) (t - 1) p h
       go false false false h = refl
+
+  -- so a caller that keeps what it had, where a step is refused, has what the step says
+  pub step_refused : (h : Threads) (l w : List Write) (t p : ℕ) (e : Refusal) → n ≡ machine_of h l
+      → taken_of (Err e) h w ≡ stepped s z room n t p → taken_of (Err e) h l ≡ stepped s z room n t p
+  unfolding taken_of
+  step_refused h l w t p e en d =
+      let code : number e ≡ (stepped s z room n t p).code = ap (λ (x : Stepped). x.code) d in
+      let stays : (stepped s z room n t p).machine ≡ n = step_stays t p
+      (λ q. true≢false (sym (eq-eqb (number e) 0 (code ∙ q)) ∙ refused_some e)) in
+      ap₂ (λ (x : ℕ) (m : Machine). record { code = x; machine = m }) code (sym (stays ∙ en))

@@ -13,3 +13,4 @@ pub mod ShownTable
 pub mod Replayed
 pub mod Answer
 pub mod OutputTable
+pub mod Bytes

@@ -1,12 +1,16 @@
 -- The code of a refused step: "27 thread absent, at its last point, or half a step; 28 pick not permitted; 29 no entry left for a write".
-use Rattle.std.specs.Prelude.{ℕ, Bool, false, not, cond, eqb, ltb, leb, Result, Ok, Err}
+use Rattle.std.specs.Prelude.{ℕ, ◌+◌, Bool, false, not, cond, eqb, ltb, leb, Result, Ok, Err}
 use Rattle.logic.specs.Opcode as Opcode
 use Rattle.replay_memory.specs.Memory.{first}
 use Rattle.replay_memory.specs.declared.memory.Memory.{Memory}
 use Rattle.replay_machine.specs.Shared.{may_pick}
 use Rattle.replay_machine.specs.declared.effect.Effect.{Effect}
 use Rattle.replay_machine.specs.declared.pick.Refusal.{Refusal}
-use Rattle.replay_machine.specs.declared.pick.Refusal.TheVariants.{Declined, Thread, Pick, Room, Unlike, OutOfRange, Unserved}
+use Rattle.replay_machine.specs.declared.pick.Refusal.TheVariants.{Declined, Thread, Pick, Room, Unlike, OutOfRange, Unserved, Other}
+
+-- the numbers that no named case has, in order: 1 to 23, 25, 26, 30, 31, 35 and so on
+unfoldable pub unnamed : ℕ → ℕ
+unnamed n = cond (ltb n 23) (n + 1) (cond (ltb n 25) (n + 2) (cond (ltb n 27) (n + 5) (n + 8)))
 
 -- the number of a refusal
 abbrev pub number : Refusal → ℕ
@@ -17,6 +21,7 @@ number Room = 29
 number Unlike = 32
 number OutOfRange = 33
 number Unserved = 34
+number (Other n) = unnamed n
 
 -- the code of what is refused; 0 where nothing is
 abbrev pub code_of : Result (Unit {0}) Refusal → ℕ

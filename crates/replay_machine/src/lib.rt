@@ -14,6 +14,9 @@ pub mod pick;
 pub mod state;
 pub mod step;
 
+// The same over a table of writes that is kept as bytes.
+pub mod bytes;
+
 // A trace of steps, from the start on.
 pub mod replayed;
 pub mod run;

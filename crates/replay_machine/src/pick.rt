@@ -1,6 +1,6 @@
 // Whether a step may be taken: its position, and room for a write.
 ghost use Rattle.std.specs.Prelude.{◌≡◌, ◌≤◌, ◌*◌};
-ghost use Rattle.replay_machine.specs.Refusal.{number, code_of, total, adding};
+ghost use Rattle.replay_machine.specs.Refusal.{unnamed, number, code_of, total, adding};
 ghost use Rattle.replay_machine.specs.Pick.{refusal_by};
 
 use crate::effect::Effect;
@@ -26,6 +26,9 @@ pub enum Refusal {
     OutOfRange,
     // A line that the table of a handover names does not serve.
     Unserved,
+    // Another reason, by the place of its number among those that no case above has. No step and no replay gives it: the run of a caller
+    // may have ended with it, so that every code of one byte can be told, and each by one case alone.
+    Other(u8),
 }
 
 impl From<Refusal> for u16 {
@@ -41,6 +44,7 @@ impl From<Refusal> for u16 {
             Refusal::Unlike => 32,
             Refusal::OutOfRange => 33,
             Refusal::Unserved => 34,
+            Refusal::Other(place) => unnamed(place),
         }
     }
 }
@@ -52,6 +56,41 @@ pub fn code_of(ended: Result<(), Refusal>) -> u16
     match ended {
         Ok(()) => 0,
         Err(refusal) => u16::from(refusal),
+    }
+}
+
+// The number at this place among those that no named case has.
+#[tactic(auto, using(limits::proofs::BranchTests::tests), unfolding(crate::specs::Refusal::unnamed))]
+fn unnamed(place: u8) -> u16
+    ensures { result ≡ unnamed place }
+{
+    let place = u16::from(place);
+    match place {
+        0..23 => place + 1,
+        23 | 24 => place + 2,
+        25 | 26 => place + 5,
+        _ => place + 8,
+    }
+}
+
+// How a run has ended that ended with this code. Each code is that of one end alone.
+#[tactic(auto, using(crate::proofs::RefusalNumbers::ends_by_code))]
+pub fn ended_by(code: u8) -> Result<(), Refusal>
+    ensures { code_of result ≡ code }
+{
+    match code {
+        0 => Ok(()),
+        24 => Err(Refusal::Declined),
+        27 => Err(Refusal::Thread),
+        28 => Err(Refusal::Pick),
+        29 => Err(Refusal::Room),
+        32 => Err(Refusal::Unlike),
+        33 => Err(Refusal::OutOfRange),
+        34 => Err(Refusal::Unserved),
+        1..=23 => Err(Refusal::Other(code - 1)),
+        25 | 26 => Err(Refusal::Other(code - 2)),
+        30 | 31 => Err(Refusal::Other(code - 5)),
+        _ => Err(Refusal::Other(code - 8)),
     }
 }
 

@@ -6,3 +6,6 @@ pub mod SameAsLogic
 pub mod StandsAfterInsert
 pub mod AccessBranches
 pub mod StandsAfterAccess
+pub mod TableBytes
+pub mod BytesBranches
+pub mod BytesWorked

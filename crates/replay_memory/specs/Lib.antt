@@ -5,3 +5,4 @@ pub mod Memory
 pub mod Insert
 pub mod MemoryStands
 pub mod Access
+pub mod Bytes

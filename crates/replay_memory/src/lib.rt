@@ -11,3 +11,7 @@ pub mod write_table;
 pub mod access;
 pub mod insert;
 pub mod memory;
+
+// The table of writes as bytes, for a caller that keeps it so, as a device does: its writes, and what steps do to it.
+pub mod bytes;
+pub mod bytes_access;

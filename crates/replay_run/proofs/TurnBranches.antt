@@ -1,8 +1,9 @@
 -- The ways through the functions on values, one law for each that is not a chain of tests.
-use mathlib.Core.Path.{◌≡◌, ◌∙◌, ap}
+use mathlib.Core.Path.{◌≡◌, refl, ◌∙◌, ap}
 use Prim.Native.Nat.{ℕ, ◌+◌, ◌-◌, ◌%◌, ◌≤◌, ◌<◌}
-use mathlib.Core.Bool.{Bool, true, false, not}
+use mathlib.Core.Bool.{Bool, true, false, not, cond}
 use mathlib.Core.List.{List, []}
+use lib.Dec.{eqb}
 use lib.ListN.{length, get_or, set, replicate}
 use borrow.Author.Tests.{lt-ltb, le-ltb, eq-eqb, ne_eqb}
 use Rattle.limits.specs.Numbers.{nth}
@@ -28,7 +29,7 @@ use Rattle.replay_machine.specs.declared.locals.Registers.{Registers}
 use Rattle.replay_machine.specs.declared.state.Threads.{Threads}
 use Rattle.replay_run.specs.Shared.{fetch_added_by}
 use Rattle.replay_run.specs.Course.{Course, start_threads, opened_on, told}
-use Rattle.replay_run.specs.NextTurn.{try_turn, step_turn, next_turn}
+use Rattle.replay_run.specs.NextTurn.{numbered, try_turn, step_turn, next_turn}
 use Rattle.replay_run.specs.Turn.{counted, begun_by, stopped, threads_after, change_by, performed_by, code_by, attempted_by, turn_by}
 use Rattle.replay_run.specs.declared.course.Course as Code
 use Rattle.replay_run.specs.declared.next_turn.StepTurn.{StepTurn}
@@ -39,6 +40,18 @@ use Rattle.replay_machine.specs.declared.pick.Refusal.{Refusal}
 use Rattle.replay_machine.specs.declared.pick.Refusal.TheVariants.{Room}
 use Rattle.std.specs.declared.result.Result.{Result}
 use Rattle.std.specs.declared.result.Result.TheVariants.{Ok, Err}
+
+-- every number of a kind is a turn: 0 a start write, 1 the step, each other one a refusal
+pub turn_numbered : (c : Course) (x : StepTurn) (w : Write) (k : ℕ)
+    → turn_by c (numbered k x) w ≡ cond (eqb k 0) (begun_by c x.effect.value) (cond (eqb k 1) (attempted_by c x w) (stopped c 27))
+unfolding numbered turn_by
+turn_numbered c x w k = go (eqb k 0) (eqb k 1)
+  where
+    go : (a b : Bool) → turn_by c (cond a (Start x.effect.value) (cond b (Step x) Refused)) w
+        ≡ cond a (begun_by c x.effect.value) (cond b (attempted_by c x w) (stopped c 27))
+    go true b = refl
+    go false true = refl
+    go false false = refl
 
 pub add_made : (g : MemoryShape) (words R t p c : ℕ) (w : Write) (d : Effect) (r : Change) → c ≡ sum_of R w.value d.value
     → r ≡ swapped_by g words w d.word c t p → r ≡ fetch_added_by g words R w d t p

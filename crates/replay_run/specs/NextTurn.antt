@@ -19,6 +19,10 @@ entry_of (Start v) = 0
 entry_of (Step x) = x.entry
 entry_of Refused = 0
 
+-- the turn of a kind: 0 a start write of the effect's value, 1 the step, every other number a refusal
+unfoldable pub numbered : ℕ → StepTurn → NextTurn
+numbered kind x = cond (eqb kind 0) (Start x.effect.value) (cond (eqb kind 1) (Step x) Refused)
+
 -- a step of thread t, counted from 0, with effect d at position p: it picks the write of that position
 unfoldable pub try_turn : Threads → Effect → ℕ → ℕ → StepTurn
 try_turn h d t p = record { t = t; position = p; effect = d; entry = index_of h.shape.sizes d.word p }

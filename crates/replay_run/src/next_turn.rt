@@ -1,7 +1,7 @@
 // What the next turn of a run is to do, and which entry of the table it has to read for that.
 ghost use Rattle.std.specs.Prelude.{◌≡◌};
 ghost use Rattle.replay_run.specs.Course.{told};
-ghost use Rattle.replay_run.specs.NextTurn.{entry_of, try_turn, step_turn, next_turn};
+ghost use Rattle.replay_run.specs.NextTurn.{entry_of, numbered, try_turn, step_turn, next_turn};
 
 use crate::course::Course;
 use image_header::header::start_value;
@@ -33,6 +33,18 @@ pub enum NextTurn {
 }
 
 impl NextTurn {
+    // The turn that a caller has by a number: by 0 a start write of the effect's value, by 1 the step, by any other a refusal.
+    #[tactic(auto, using(limits::proofs::BranchTests::tests), unfolding(crate::specs::NextTurn::numbered))]
+    pub fn numbered(kind: u8, step: StepTurn) -> NextTurn
+        ensures { result ≡ numbered kind step }
+    {
+        match kind {
+            0 => NextTurn::Start(step.effect.value),
+            1 => NextTurn::Step(step),
+            _ => NextTurn::Refused,
+        }
+    }
+
     // The entry of the table that is read; the first one where the turn picks no write.
     pub fn entry(self) -> usize
         ensures { result ≡ entry_of self }

@@ -1,5 +1,5 @@
 -- Conclusions against templates: the ways through the functions, one law for each.
-use mathlib.Core.Path.{◌≡◌, refl, sym, ◌∙◌}
+use mathlib.Core.Path.{◌≡◌, sym}
 use mathlib.Core.Bool.{Bool, true, false}
 use mathlib.Core.List.{List}
 use Prim.Native.Nat.{ℕ, suc, ◌+◌, ◌-◌, ◌/◌, ◌%◌, ◌≤◌, ◌<◌}
@@ -7,7 +7,6 @@ use native.Mathlib.Omega.{arith}
 use lib.ListN.{get_or}
 use lib.Dec.{eqb}
 use borrow.Author.Tests.{lt-ltb, le-ltb, eq-eqb, ne_eqb}
-use denote.Enum.Bare.{sameb}
 use Rattle.std.specs.Prelude.{Option, None, Some}
 use Rattle.limits.specs.Limits.{nesting, premises}
 use Rattle.limits.proofs.BranchTests.{tests}
@@ -15,35 +14,33 @@ use Rattle.formula_match.specs.MatchPlaces.{whole_at, then_whole}
 use Rattle.formula_match.specs.declared.bind.Bind.{Bind}
 use Rattle.formula_match.specs.declared.matching_whole.Whole.{Whole}
 use Rattle.formula_trees.specs.StatementTree.{acted}
-use Rattle.rules_table.specs.RuleTable.{form_number, form_numbered, same_form}
+use Rattle.rules_table.specs.RuleTable.{form_number, form_numbered}
 use Rattle.rules_table.specs.declared.rule.Form.{Form}
-use Rattle.rules_table.specs.contracts.rule.Form.{the_type}
-use Rattle.rules_table.proofs.RuleForms.{form_flag}
 use Rattle.rules_line.specs.Conclusion.{placed_at, match_conclusion, no_conclusion, conclusion_at, match_from}
 use Rattle.rules_line.specs.declared.conclusion.Conclusion.{Conclusion}
 use Rattle.rules_line.specs.declared.conclusion.Premises.{Premises}
 
-module _ (form : Form) (t k : ℕ) (c : Conclusion) (o : Bool) (e : o ≡ sameb the_type c.form form) where
-  flag : (b : Bool) → o ≡ b → same_form c.form form ≡ b
-  flag b h = sym (form_flag c.form form) ∙ sym e ∙ h
-
-  pub placed_other : o ≡ false → false ≡ placed_at form t k c
+module _ (form : Form) (t k : ℕ) (c : Conclusion) (n m : ℕ) (e : n ≡ form_number c.form) (g : m ≡ form_number form) where
+  pub placed_other : (n ≡ m → ⊥) → false ≡ placed_at form t k c
   unfolding placed_at
-  placed_other h = rw (flag false h)
+  placed_other h = rw (← e, ← g, ne_eqb _ _ h)
 
-  module _ (h : o ≡ true) (a : Bool) (d : a ≡ acted (form_number form)) where
+  module _ (h : n ≡ m) (a : Bool) (d : a ≡ acted (form_number form)) where
+    same : eqb (form_number c.form) (form_number form) ≡ true
+    same = rw (← e, ← g) (eq-eqb _ _ h)
+
     pub placed_form : a ≡ false → true ≡ placed_at form t k c
     unfolding placed_at
-    placed_form n = rw (flag true h, ← d, n)
+    placed_form f = rw (same, ← d, f)
 
     module _ (y : a ≡ true) where
       pub placed_thread : (c.thread ≡ t → ⊥) → false ≡ placed_at form t k c
       unfolding placed_at
-      placed_thread n = rw (flag true h, ← d, y, ne_eqb _ _ n)
+      placed_thread f = rw (same, ← d, y, ne_eqb _ _ f)
 
       pub placed_point : (b : Bool) → c.thread ≡ t → b ≡ eqb c.point k → b ≡ placed_at form t k c
       unfolding placed_at
-      placed_point b q g = rw (flag true h, ← d, y, eq-eqb _ _ q) g
+      placed_point b q g = rw (same, ← d, y, eq-eqb _ _ q) g
 
 module _ (s t : List ℕ) (i thread point : ℕ) (form : Form) (c : Conclusion) (b : Bind) (p : Bool) (e : p ≡ placed_at form thread point c) where
   pub conclusion_elsewhere : p ≡ false → None ≡ match_conclusion s t i form thread point c b

@@ -2,7 +2,9 @@
 use mathlib.Core.Path.{◌≡◌}
 use mathlib.Core.Bool.{Bool, true, false}
 use mathlib.Core.List.{List}
-use Prim.Native.Nat.{ℕ}
+use Prim.Native.Nat.{ℕ, suc}
+use native.Mathlib.Omega.{arith}
+use borrow.Author.Tests.{ne_eqb}
 use Rattle.std.specs.Prelude.{Option, None, Some}
 use Rattle.limits.proofs.BranchTests.{tests}
 use Rattle.formula.specs.Codes.{member}
@@ -16,7 +18,7 @@ use Rattle.image_access.specs.AccessPlaces.{acting_of, line_in}
 use Rattle.image_access.specs.declared.line.Line.{Line}
 use Rattle.image_access.specs.declared.acting_instruction.Acting.{Acting}
 use Rattle.rules_table.specs.RuleTable.{rule_row}
-use Rattle.rules_table.specs.declared.rule.Form.TheVariants.{Inclusion, Implication, Triple, Pair, Unlisted}
+use Rattle.rules_table.specs.declared.rule.Form.TheVariants.{Inclusion, Implication, Triple, Pair, Unlisted, Other}
 use Rattle.rules_table.specs.declared.rule.Rule.{Rule}
 use Rattle.rules_line.specs.Conclusion.{match_conclusion}
 use Rattle.rules_line.specs.LineConclusion.{conclusion_by, line_at}
@@ -47,6 +49,13 @@ module _ (w : Rule) (a : Acting) where
   pub allowed_unlisted : w.form ≡ Unlisted → true ≡ is_allowed w a
   unfolding is_allowed
   allowed_unlisted e = rw e
+
+  pub allowed_other : (n : ℕ) → w.form ≡ Other n → true ≡ is_allowed w a
+  unfolding is_allowed
+  allowed_other n e =
+      let no_triple : suc (suc (suc (suc (suc n)))) ≡ 2 → ⊥ = omega arith in
+      let no_pair : suc (suc (suc (suc (suc n)))) ≡ 3 → ⊥ = omega arith in
+      rw (e, ne_eqb _ 2 no_triple, ne_eqb _ 3 no_pair)
 
 module _ (s : List ℕ) (w : Rule) (a : Acting) (c : Conclusion) (p : Premises) (b : Bind) (o : Bool) (e : o ≡ is_allowed w a) where
   pub rest_asked : (r : Bool) → o ≡ true → r ≡ asked s w.side b a c p → r ≡ rest_at s w a c p b
@@ -91,6 +100,7 @@ pub ruleset rule_instance_branches = (
   allowed_inclusion,
   allowed_implication,
   allowed_unlisted,
+  allowed_other,
   rest_asked,
   rest_refused,
   line_matched,

@@ -8,6 +8,7 @@ pub mod SideTestBranches
 pub mod NewValueBranches
 pub mod SideConditionBranches
 pub mod SideConditionsAgree
+pub mod SideNumbers
 pub mod Presets
 pub mod InstanceBranches
 pub mod InstanceAgrees

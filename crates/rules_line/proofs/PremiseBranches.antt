@@ -1,10 +1,10 @@
 -- The ways through the premises, one law for each.
-use mathlib.Core.Path.{◌≡◌, ◌∙◌}
+use mathlib.Core.Path.{◌≡◌, refl, sym, subst}
 use mathlib.Core.Bool.{Bool, true, false}
 use mathlib.Core.List.{List, [], ◌∷◌}
 use Prim.Native.Nat.{ℕ, ◌≤◌, ◌<◌}
-use denote.Enum.Bare.{sameb}
 use Rattle.std.specs.Prelude.{Option, None, Some}
+use lib.Dec.{T}
 use lib.ListN.{get_or}
 use borrow.Author.Tests.{le-leb, lt-leb, lt-ltb, le-ltb, eq-eqb, ne_eqb}
 use Rattle.limits.proofs.BranchTests.{tests}
@@ -15,10 +15,9 @@ use Rattle.image_bodies.specs.Line as Lines
 use Rattle.formula_match.specs.declared.bind.Bind.{Bind}
 use Rattle.formula_match.specs.declared.matching_whole.Whole.{Whole}
 use Rattle.image_meaning.specs.Certificate.{line_body}
-use Rattle.rules_table.specs.RuleTable.{any_implications}
+use Rattle.rules_table.specs.RuleTable.{any_implications, same_form}
 use Rattle.rules_table.specs.declared.rule.Form.TheVariants.{Implication}
-use Rattle.rules_table.specs.contracts.rule.Form.{the_type}
-use Rattle.rules_table.proofs.RuleForms.{form_flag}
+use Rattle.rules_table.proofs.RuleForms.{same_forms}
 use Rattle.rules_table.specs.declared.rule.Rule.{Rule}
 use Rattle.rules_line.specs.Conclusion.{no_conclusion, conclusion_at, match_from}
 use Rattle.rules_line.specs.LineConclusion.{conclusion_of}
@@ -47,10 +46,18 @@ module _ (p : Premises) where
   unfolding is_implication_at
   implication_past j h = rw (le-leb _ _ h)
 
-  pub implication_there : (j : ℕ) (c : Conclusion) (b : Bool) → j < p.count → c ≡ conclusion_at p j → b ≡ sameb the_type c.form Implication
-      → b ≡ is_implication_at p j
-  unfolding is_implication_at
-  implication_there j c b h e d = rw (lt-leb _ _ h, ← e) (d ∙ form_flag c.form Implication)
+  module _ (j : ℕ) (c : Conclusion) (h : j < p.count) (e : c ≡ conclusion_at p j) where
+    pub implication_there : c.form ≡ Implication → true ≡ is_implication_at p j
+    unfolding is_implication_at
+    implication_there d = rw (lt-leb _ _ h, ← e, d)
+
+    pub implication_not : (c.form ≡ Implication → ⊥) → false ≡ is_implication_at p j
+    unfolding is_implication_at
+    implication_not n = rw (lt-leb _ _ h, ← e) (go (same_form c.form Implication) refl)
+      where
+        go : (b : Bool) → same_form c.form Implication ≡ b → false ≡ same_form c.form Implication
+        go true q = absurd (n (same_forms c.form Implication (subst T (sym q) tt)))
+        go false q = sym q
 
   pub too_many : Limits.premises < p.count → false ≡ all_implications p
   unfolding all_implications
@@ -101,6 +108,7 @@ pub ruleset premises_branches = (
   premises_is,
   implication_past,
   implication_there,
+  implication_not,
   too_many,
   not_first,
   not_second,

@@ -25,7 +25,10 @@ pub struct Conclusion {
 fn is_acting(form: Form) -> bool
     ensures { result ≡ acted (form_number form) }
 {
-    matches!(form, Form::Triple | Form::Pair | Form::Unlisted)
+    matches!(
+        form,
+        Form::Triple | Form::Pair | Form::Unlisted | Form::Other(_)
+    )
 }
 
 // The conclusion has the wanted form; a Hoare triple, of a pair too, is for the same thread and point.

@@ -25,7 +25,7 @@ fn is_allowed(rule: Rule, acting: Acting) -> bool
     match rule.form {
         Form::Triple => contains(u32::from(rule.operations), acting.operation),
         Form::Pair => contains(u32::from(rule.operations), acting.whole),
-        Form::Inclusion | Form::Implication | Form::Unlisted => true,
+        Form::Inclusion | Form::Implication | Form::Unlisted | Form::Other(_) => true,
     }
 }
 

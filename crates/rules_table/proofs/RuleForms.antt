@@ -1,6 +1,6 @@
 -- The form of a rule's lines goes by its number.
-use Prim.Native.Nat.{ℕ, zero, suc, ◌≤◌, ◌<◌}
-use mathlib.Core.Path.{◌≡◌, refl, ap, ap₂, sym, ◌∙◌}
+use Prim.Native.Nat.{ℕ, zero, suc, ◌-◌, ◌≤◌, ◌<◌}
+use mathlib.Core.Path.{◌≡◌, refl, ap, sym, ◌∙◌}
 use mathlib.Core.Bool.{Bool, true, false, cond, ◌&&◌}
 use mathlib.Core.List.{List, [], ◌∷◌}
 use native.Mathlib.Omega.{arith}
@@ -9,15 +9,14 @@ use lib.ListN.{length, get_or, get_or-eq_default}
 use borrow.Author.Tests.{ne_eqb, lt-leb, le-ltb, ltb-true, ltb-false}
 use Rattle.std.proofs.lemmas.Bool.Decides.{nat_tests}
 use Rattle.semantics.proofs.Base.{and_left, and_right}
-use denote.Enum.Bare.{sameb}
-use denote.Enum.Declared.{tag_of}
-use Rattle.rules_table.specs.contracts.rule.Form.{the_type}
+use Rattle.logic.specs.Rows.{all_below}
+use Rattle.logic.proofs.Rows.{all_below_at}
 use Rattle.rules_table.specs.declared.rule.Side.{Side}
 use Rattle.rules_table.specs.declared.rule.Side.TheVariants.{Nothing, Kept, Assigned, Loaded, WordAbsent, Stored, ByRows, ByTable, StartValue, NewValue, StartsAtZero}
 use Rattle.rules_table.specs.TableTest.{same_side}
-use Rattle.rules_table.specs.RuleTable.{form_number, form_numbered, same_form, side_number, rows, unlisted, rule_row}
+use Rattle.rules_table.specs.RuleTable.{form_number, form_numbered, same_form, side_number, side_numbered, rows, unlisted, rule_row}
 use Rattle.rules_table.specs.declared.rule.Form.{Form}
-use Rattle.rules_table.specs.declared.rule.Form.TheVariants.{Inclusion, Implication, Triple, Pair, Unlisted}
+use Rattle.rules_table.specs.declared.rule.Form.TheVariants.{Inclusion, Implication, Triple, Pair, Unlisted, Other}
 use Rattle.rules_table.specs.declared.rule.Rule.{Rule}
 use Rattle.rules_table.proofs.TableRows.{row_past}
 
@@ -32,22 +31,28 @@ form_by n =
     (cond (ltb n 50) Triple
     (cond (eqb n 50) Pair Unlisted)))))))
 
-form_back : (f : Form) → form_numbered (form_number f) ≡ f
+-- the form of any number
+abbrev pub form_named : ℕ → Form
+form_named n = get_or (Inclusion ∷ Implication ∷ Triple ∷ Pair ∷ Unlisted ∷ []) n (Other (n - 5))
+
+form_back : (f : Form) → form_named (form_number f) ≡ f
 form_back Inclusion = refl
 form_back Implication = refl
 form_back Triple = refl
 form_back Pair = refl
 form_back Unlisted = refl
+form_back (Other n) =
+    let number : ℕ = suc (suc (suc (suc (suc n)))) in
+    let past : 5 ≤ number = omega arith in
+    let back : number - 5 ≡ n = omega arith in
+    get_or-eq_default (Inclusion ∷ Implication ∷ Triple ∷ Pair ∷ Unlisted ∷ []) (Other (number - 5)) past ∙ ap Other back
 
 -- forms are told apart by their numbers
 pub form_one : (f g : Form) → form_number f ≡ form_number g → f ≡ g
-form_one f g e = sym (form_back f) ∙ ap form_numbered e ∙ form_back g
+form_one f g e = sym (form_back f) ∙ ap form_named e ∙ form_back g
 
 pub same_forms : (f g : Form) → T (same_form f g) → f ≡ g
 same_forms f g h = form_one f g (eqb→eq (form_number f) (form_number g) h)
-
-abbrev side_numbered : ℕ → Side
-side_numbered n = get_or (Nothing ∷ Kept ∷ Assigned ∷ Loaded ∷ WordAbsent ∷ Stored ∷ ByRows ∷ ByTable ∷ StartValue ∷ NewValue ∷ []) n StartsAtZero
 
 side_back : (a : Side) → side_numbered (side_number a) ≡ a
 side_back Nothing = refl
@@ -66,16 +71,34 @@ side_back StartsAtZero = refl
 pub same_sides : (a b : Side) → T (same_side a b) → a ≡ b
 same_sides a b h = sym (side_back a) ∙ ap side_numbered (eqb→eq (side_number a) (side_number b) h) ∙ side_back b
 
--- the test of the code for two forms is this one
-tag_number : (f : Form) → tag_of the_type f ≡ form_number f
-tag_number Inclusion = refl
-tag_number Implication = refl
-tag_number Triple = refl
-tag_number Pair = refl
-tag_number Unlisted = refl
+named_back : T (all_below 5 (λ n. eqb (form_number (form_numbered n)) n))
+named_back = tt
 
-pub form_flag : (f g : Form) → sameb the_type f g ≡ same_form f g
-form_flag f g = ap₂ eqb (tag_number f) (tag_number g)
+module _ (n : ℕ) where
+  pub form_below : (f : Form) → n < 5 → f ≡ form_numbered n → form_number f ≡ n
+  form_below f h e =
+      ap form_number e ∙ eqb→eq (form_number (form_numbered n)) n (all_below_at 5 (λ i. eqb (form_number (form_numbered i)) i) named_back n h)
+
+  pub form_above : 5 ≤ n → form_number (Other (n - 5)) ≡ n
+  form_above h = omega arith
+
+-- so every number is that of some form
+pub named_number : (n : ℕ) → form_number (form_named n) ≡ n
+named_number n = go (ltb n 5) refl
+  where
+    go : (b : Bool) → ltb n 5 ≡ b → form_number (form_named n) ≡ n
+    go true e = eqb→eq (form_number (form_named n)) n (all_below_at 5 (λ i. eqb (form_number (form_named i)) i) tt n (ltb-true n 5 e))
+    go false e =
+        let past : 5 ≤ n = ltb-false n 5 e in
+        ap form_number (get_or-eq_default (Inclusion ∷ Implication ∷ Triple ∷ Pair ∷ Unlisted ∷ []) (Other (n - 5)) past) ∙ form_above n past
+
+pub ruleset forms_by_number = (form_below, form_above)
+
+pub side_past : (n : ℕ) → 11 ≤ n → WordAbsent ≡ side_numbered n
+side_past n h = sym (get_or-eq_default
+    (Nothing ∷ Kept ∷ Assigned ∷ Loaded ∷ WordAbsent ∷ Stored ∷ ByRows ∷ ByTable ∷ StartValue ∷ NewValue ∷ StartsAtZero ∷ [])
+    WordAbsent
+    h)
 
 pub numbered_past : (n : ℕ) → 4 ≤ n → Unlisted ≡ form_numbered n
 numbered_past n h = sym (get_or-eq_default (Inclusion ∷ Implication ∷ Triple ∷ Pair ∷ []) Unlisted h)

@@ -1,7 +1,7 @@
 -- The table of rules as the code has it: what `rule_at` and `all_templates` return.
-use Rattle.std.specs.Prelude.{Bool, List, [], ◌∷◌, ℕ, ◌+◌, eqb, get_or}
+use Rattle.std.specs.Prelude.{Bool, List, [], ◌∷◌, ℕ, suc, ◌+◌, eqb, get_or}
 use Rattle.rules_table.specs.declared.rule.Form.{Form}
-use Rattle.rules_table.specs.declared.rule.Form.TheVariants.{Inclusion, Implication, Triple, Pair, Unlisted}
+use Rattle.rules_table.specs.declared.rule.Form.TheVariants.{Inclusion, Implication, Triple, Pair, Unlisted, Other}
 use Rattle.rules_table.specs.declared.rule.Rule.{Rule}
 use Rattle.rules_table.specs.declared.rule.Side.{Side}
 use Rattle.rules_table.specs.declared.rule.Side.TheVariants.{Nothing, Kept, Assigned, Loaded, WordAbsent, Stored, ByRows, ByTable, StartValue, NewValue, StartsAtZero}
@@ -13,6 +13,7 @@ form_number Implication = 1
 form_number Triple = 2
 form_number Pair = 3
 form_number Unlisted = 4
+form_number (Other n) = suc (suc (suc (suc (suc n))))
 
 -- the form with a number
 abbrev pub form_numbered : ℕ → Form
@@ -35,6 +36,14 @@ side_number ByTable = 7
 side_number StartValue = 8
 side_number NewValue = 9
 side_number StartsAtZero = 10
+
+-- the side condition with a number; past the last one it is that of rules 8 and 13
+abbrev pub side_numbered : ℕ → Side
+side_numbered n =
+    get_or
+    (Nothing ∷ Kept ∷ Assigned ∷ Loaded ∷ WordAbsent ∷ Stored ∷ ByRows ∷ ByTable ∷ StartValue ∷ NewValue ∷ StartsAtZero ∷ [])
+    n
+    WordAbsent
 
 -- the premise count of rule 20, which has 0 to 4 implications
 abbrev pub any_implications : ℕ

@@ -12,10 +12,13 @@ pub enum Form {
     Triple,
     Pair,
     Unlisted,
+    // Another number that a conclusion is given for its form, by how much it is above 5. No rule has such a form, and none of the image's
+    // lines; two of them are the same form if they are the same number.
+    Other(u8),
 }
 
 impl Form {
-    ghost use Rattle.rules_table.specs.RuleTable.{form_numbered};
+    ghost use Rattle.rules_table.specs.RuleTable.{form_number, form_numbered};
 
     // The form with this number, two bits in a row's `forms`.
     // No `From<u8>`: a form is made of a rule's number too (`form_at`), so the name says which number is meant.
@@ -29,6 +32,18 @@ impl Form {
             2 => Form::Triple,
             3 => Form::Pair,
             _ => Form::Unlisted,
+        }
+    }
+
+    // The form of any number, for a caller that keeps forms as numbers.
+    #[tactic(auto, using(crate::proofs::RuleForms::forms_by_number, limits::proofs::BranchTests::tests))]
+    pub fn numbered(number: u8) -> Form
+        ensures { form_number result ≡ number }
+    {
+        if number < 5 {
+            Form::from_bits(number)
+        } else {
+            Form::Other(number - 5)
         }
     }
 }
@@ -57,6 +72,31 @@ pub enum Side {
     NewValue,
     // Rule 27: the register starts at 0.
     StartsAtZero,
+}
+
+impl Side {
+    ghost use Rattle.rules_table.specs.RuleTable.{side_numbered};
+
+    // The side condition with this number, for a caller that keeps them as numbers; a number past the last one is judged as that of rules
+    // 8 and 13.
+    #[tactic(auto, using(crate::proofs::RuleForms::side_past))]
+    pub fn numbered(number: u8) -> Side
+        ensures { result ≡ side_numbered number }
+    {
+        match number {
+            0 => Side::Nothing,
+            1 => Side::Kept,
+            2 => Side::Assigned,
+            3 => Side::Loaded,
+            5 => Side::Stored,
+            6 => Side::ByRows,
+            7 => Side::ByTable,
+            8 => Side::StartValue,
+            9 => Side::NewValue,
+            10 => Side::StartsAtZero,
+            _ => Side::WordAbsent,
+        }
+    }
 }
 
 // The operations that a rule allows: bit k stands for operation k. Each set is named by what its operations do.
@@ -97,8 +137,8 @@ impl Operations {
 }
 
 // A row: where the rule's templates begin; the operations that it allows, a bit each; the form of its lines; how many premises, and their
-// forms, two bits each from the lowest (rule 20 has 5 here and any number up to four); its side condition. A row has eight bytes and no
-// gap, because the table is made anew for each look-up.
+// forms, two bits each from the lowest (rule 20 has 5 here and any number up to four); its side condition. A row has few bytes,
+// because the table is made anew for each look-up.
 #[derive(Clone, Copy)]
 pub struct Rule {
     pub template: u16,

@@ -33,7 +33,7 @@ pub fn choices(image: &[u8], range: u8, slot: Slot) -> u8
     ensures { result ≡ choices_t range (slot_tree image.now slot) }
 {
     match slot {
-        Slot::Plain(code, _) => choices_by(range, usize::from(code)),
+        Slot::Plain(code, _) => choices_by(range, code),
         Slot::Whole(place, _) => choices_by(range, usize::from(node_at(image, place).code)),
     }
 }

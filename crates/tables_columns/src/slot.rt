@@ -19,8 +19,8 @@ impl Slots {
 // A leaf.
 #[derive(Clone, Copy)]
 pub enum Slot {
-    // Without parts, by its code and its operand.
-    Plain(u8, u8),
+    // Without parts, by its code and its operand. No node is the leaf in a slot in which either of them is above 255.
+    Plain(usize, usize),
     // By its position, nested at most so deep, and at least one level.
     Whole(usize, usize),
 }
@@ -38,7 +38,7 @@ pub fn leaf_slot(image: &[u8], at: usize, left: usize) -> Slot
 {
     let node = node_at(image, at);
     if node.parts == 0 {
-        return Slot::Plain(node.code, node.operand);
+        return Slot::Plain(usize::from(node.code), usize::from(node.operand));
     }
     Slot::Whole(at, left)
 }
@@ -50,7 +50,9 @@ pub fn same_slot(image: &[u8], at: usize, left: usize, node: Node, slot: Slot) -
 {
     match slot {
         Slot::Plain(code, operand) => {
-            node.code == code && node.operand == operand && (node.parts == 0 || left == 1)
+            usize::from(node.code) == code
+                && usize::from(node.operand) == operand
+                && (node.parts == 0 || left == 1)
         }
         Slot::Whole(place, nested) => {
             let nested = nested.max(1);
@@ -68,7 +70,9 @@ pub fn same_plain(image: &[u8], code: u8, operand: u8, slot: Slot) -> bool
     ensures { result ≡ same_plain image.now code operand slot }
 {
     match slot {
-        Slot::Plain(other, its_operand) => code == other && operand == its_operand,
+        Slot::Plain(other, its_operand) => {
+            usize::from(code) == other && usize::from(operand) == its_operand
+        }
         Slot::Whole(place, _) => {
             let other = node_at(image, place);
             code == other.code && operand == other.operand

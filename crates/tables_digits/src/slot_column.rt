@@ -3,7 +3,6 @@
 ghost use Rattle.std.specs.Prelude.{◌≡◌, ◌+◌, ◌≤◌, ◌<◌, length, take};
 ghost use Rattle.tables_digits.specs.SlotColumn.{slot_column, longer_run, run_of, span_of, level_in};
 
-use crate::rows::Rows;
 use crate::run::set_run;
 use tables_columns::block::fill;
 use tables_columns::slot::Slots;
@@ -21,39 +20,39 @@ fn longer(run: usize, last: u8, n: usize) -> usize
     run
 }
 
-// The number of rows in a run of digit `j`, or some number from `rows.count` on if it has at least so many.
+// The number of rows in a run of digit `j`, or some number from `n` on if it has at least `n` rows.
 #[tactic(auto, using(crate::proofs::RunBranches::run_of_branches))]
-fn run_of(rows: &Rows, j: usize) -> usize
-    requires { j ≤ 12 }
-    ensures { result ≡ run_of rows.now.count rows.now.lasts.now j }
+fn run_of(lasts: &[u8; Slots::COUNT], j: usize, n: usize) -> usize
+    requires { (j ≤ 12) × (n ≤ 4096) }
+    ensures { result ≡ run_of n lasts.now j }
 {
     let mut run = 1;
     for i in 0..j {
-        run = longer(run, rows.lasts[i], rows.count);
+        run = longer(run, lasts[i], n);
     }
     run
 }
 
-// The period of the first `j` digits: the number of rows in which they take all their values, at most all of them.
+// The period of the first `j` digits: the number of rows in which they take all their values, at most `n`.
 #[tactic(auto, using(crate::proofs::RunBranches::span_is, limits::proofs::BranchTests::tests))]
-pub fn span_of(rows: &Rows, j: usize) -> usize
-    requires { j ≤ 12 }
-    ensures { result ≡ span_of rows.now.count rows.now.lasts.now j }
+pub fn span_of(lasts: &[u8; Slots::COUNT], j: usize, n: usize) -> usize
+    requires { (j ≤ 12) × (n ≤ 4096) }
+    ensures { result ≡ span_of n lasts.now j }
 {
-    rows.count.min(run_of(rows, j))
+    n.min(run_of(lasts, j, n))
 }
 
-// Writes the runs of digit `j`, value after value, at most up to the last row.
+// Writes the runs of digit `j`, value after value, at most up to row `n`.
 #[tactic(auto, using(crate::proofs::RunBranches::set_runs_branches))]
-fn set_runs(rows: &Rows, j: usize, run: usize, out: &mut [u8])
-    requires j_bound { (j < 12) × (run ≡ run_of rows.now.count rows.now.lasts.now j) }
-    requires in_bounds { rows.now.count ≤ length out.old }
-    ensures { take (span_of rows.now.count rows.now.lasts.now (j + 1)) out.new
-        ≡ slot_column rows.now.lasts.now j (span_of rows.now.count rows.now.lasts.now (j + 1)) }
+fn set_runs(lasts: &[u8; Slots::COUNT], j: usize, run: usize, n: usize, out: &mut [u8])
+    requires j_bound { (j < 12) × (run ≡ run_of n lasts.now j) }
+    requires in_bounds { n ≤ length out.old }
+    ensures { take (span_of n lasts.now (j + 1)) out.new
+        ≡ slot_column lasts.now j (span_of n lasts.now (j + 1)) }
 {
     let mut to = 0;
-    for value in 0..=rows.lasts[j] {
-        let count = run.min(rows.count - to);
+    for value in 0..=lasts[j] {
+        let count = run.min(n - to);
         set_run(value, to, count, out);
         to += count;
     }
@@ -61,17 +60,17 @@ fn set_runs(rows: &Rows, j: usize, run: usize, out: &mut [u8])
 
 // Writes the column of slot `j` for one period; returns the number of digits that it depends on. For a slot that is not there all is 0.
 #[tactic(auto, using(crate::proofs::RunBranches::take_slot_branches))]
-pub fn take_slot(rows: &Rows, j: usize, out: &mut [u8]) -> usize
-    requires { rows.now.count ≤ length out.old }
+pub fn take_slot(lasts: &[u8; Slots::COUNT], j: usize, n: usize, out: &mut [u8]) -> usize
+    requires { (n ≤ 4096) × (n ≤ length out.old) }
     ensures value { result ≡ level_in j }
-    ensures out_after { take (span_of rows.now.count rows.now.lasts.now result) out.new
-        ≡ slot_column rows.now.lasts.now j (span_of rows.now.count rows.now.lasts.now result) }
+    ensures out_after { take (span_of n lasts.now result) out.new
+        ≡ slot_column lasts.now j (span_of n lasts.now result) }
 {
     if j < Slots::COUNT {
-        let run = run_of(rows, j);
-        set_runs(rows, j, run, out);
+        let run = run_of(lasts, j, n);
+        set_runs(lasts, j, run, n, out);
         return j + 1;
     }
-    fill(0, span_of(rows, 0), out);
+    fill(0, span_of(lasts, 0, n), out);
     0
 }

@@ -43,11 +43,11 @@ fn plain_column(rows: &Rows, code: u8, operand: u8, out: &mut [u8]) -> usize
 {
     if contains(rows.reading.leaves, code) {
         let slot = plain_slot(rows.image, code, operand, rows.slots);
-        return take_slot(rows, slot, out);
+        return take_slot(rows.lasts, slot, rows.count, out);
     }
     fill(
         combine_parts(rows.reading.range, code, operand, 0, 0),
-        span_of(rows, 0),
+        span_of(rows.lasts, 0, rows.count),
         out,
     );
     0
@@ -65,7 +65,7 @@ fn leaf_column(rows: &Rows, at: usize, left: usize, out: &mut [u8]) -> Option<us
         ≡ leaf rows.now (span rows.now (formula rows.now left at)) left at out.old }
 {
     if left == 0 {
-        fill(0, span_of(rows, 0), out);
+        fill(0, span_of(rows.lasts, 0, rows.count), out);
         return Some(0);
     }
     let node = node_at(rows.image, at);
@@ -74,7 +74,7 @@ fn leaf_column(rows: &Rows, at: usize, left: usize, out: &mut [u8]) -> Option<us
     }
     if contains(rows.reading.leaves, node.code) {
         let slot = slot_of(rows.image, at, left, rows.slots);
-        return Some(take_slot(rows, slot, out));
+        return Some(take_slot(rows.lasts, slot, rows.count, out));
     }
     None
 }
@@ -88,7 +88,11 @@ fn widen_level(rows: &Rows, i: usize, level: usize, out: &mut [u8])
         (span_of rows.now.count rows.now.lasts.now level) out.new }
 {
     if i != level {
-        widen(span_of(rows, i), span_of(rows, level), out);
+        widen(
+            span_of(rows.lasts, i, rows.count),
+            span_of(rows.lasts, level, rows.count),
+            out,
+        );
     }
 }
 
@@ -111,7 +115,7 @@ fn join_columns(
     let level = i.max(j);
     widen_level(rows, i, level, column);
     widen_level(rows, j, level, other);
-    let span = span_of(rows, level);
+    let span = span_of(rows.lasts, level, rows.count);
     combine_columns(
         rows.reading.range,
         node.code,
@@ -167,5 +171,5 @@ pub fn whole_column(rows: &Rows, at: usize, left: usize, out: &mut [u8])
     ensures { take rows.now.count out.new ≡ column rows.now rows.now.count (formula rows.now left at) }
 {
     let p = column_at(rows, at, left, out);
-    widen(span_of(rows, p.level), rows.count, out);
+    widen(span_of(rows.lasts, p.level, rows.count), rows.count, out);
 }

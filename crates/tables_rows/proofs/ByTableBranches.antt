@@ -28,7 +28,7 @@ use Rattle.tables_bits.specs.Bits.{bit, ones, word_of, words_of, deny_word, deny
 use Rattle.tables_bits.proofs.BitFacts.{flag, bit_ones, flag_and, flag_deny, none-set}
 use Rattle.tables_bits.specs.TruthTable.{by_leaves, Later, Shows, TreeBits, Grown}
 use Rattle.tables_bits.proofs.BitsShow.{shows_later}
-use Rattle.tables_rows.specs.Entailment.{pair_at, ImpT, imp_of, premises_from, imp_at, all_at, entails_at, gather_all}
+use Rattle.tables_rows.specs.Entailment.{ImpT, imp_of, premises_from, imp_at, all_at, entails_at, gather_all}
 use Rattle.tables_rows.specs.EveryRow.{lasts_of, tried_rows, rows_hold, every_of}
 use Rattle.tables_rows.specs.ByTable.{ImpBits, AllBits, FailBits}
 use Rattle.tables_rows.specs.declared.entailment.Implication.{Implication}
@@ -67,7 +67,7 @@ wide_deny : (o a b : List ℕ) → o ≡ deny_words 16 a b → length o ≡ 16
 unfolding deny_words
 wide_deny o a b e = ap length e ∙ column_length _ 16
 
-module _ (s : List ℕ) (pairs : List Implication) (t : Task) where
+module _ (s : List ℕ) (pairs : ℕ → Implication) (t : Task) where
   abbrev prems : ℕ → List ImpT
   prems = premises_from s pairs t
 
@@ -75,7 +75,7 @@ module _ (s : List ℕ) (pairs : List Implication) (t : Task) where
   imp = imp_of s pairs t
 
   -- an implication fails where the left side is true and the right side is not
-  pub imp_bits : (i m k : ℕ) (x : Implication) (q₂ q₃ : List Slot) (b a o : List ℕ) → x ≡ pair_at pairs i
+  pub imp_bits : (i m k : ℕ) (x : Implication) (q₂ q₃ : List Slot) (b a o : List ℕ) → x ≡ pairs i
       → TreeBits s m q₂ (parse_tree s t.right x.right).tree b → Grown m q₂ k q₃ a → TreeBits s k q₃ (parse_tree s t.left x.left).tree a
       → o ≡ deny_words 16 a b → ImpBits s k q₃ (imp_of s pairs t i) o
   unfolding ImpBits TreeBits imp_at imp_of
@@ -168,7 +168,7 @@ two_tried : (s : List ℕ) (q : List Slot) (k : ℕ) → k ≤ slots → 2 ^ k �
 two_tried s q k h = ap (λ (n : ℕ). 2 ^ n) (sym (kept_length s q k)) ∙ sym (two_rows (kept s q k)) ∙ sym (rows_count s q 2 (omega arith) k h)
 
 -- the bits tried are the rows from all zeros on
-module _ (s : List ℕ) (pairs : List Implication) (t : Task) (q : List Slot) (k : ℕ) (few : k ≤ 10) where
+module _ (s : List ℕ) (pairs : ℕ → Implication) (t : Task) (q : List Slot) (k : ℕ) (few : k ≤ 10) where
   pub bits_once : EveryOnce (lasts_of s q 2 k) (tried_rows s q 2 k (2 ^ k))
   bits_once = tried_once s q 2 k (2 ^ k) (two_tried s q k (omega arith))
 
@@ -208,7 +208,7 @@ module _ (s : List ℕ) (pairs : List Implication) (t : Task) (q : List Slot) (k
 
 pub ruleset bits_hold_branches = (bits_once, bits_hold)
 
-module _ (s : List ℕ) (pairs : List Implication) (t : Task) (k : ℕ) (q : List Slot) (eg : view s k q ≡ gather_all s pairs t by_leaves.leaves) where
+module _ (s : List ℕ) (pairs : ℕ → Implication) (t : Task) (k : ℕ) (q : List Slot) (eg : view s k q ≡ gather_all s pairs t by_leaves.leaves) where
   pub bits_many : 10 < k → false ≡ every_of s pairs t by_leaves 1024
   unfolding every_of
   bits_many h = go (ltb slots k) refl

@@ -56,7 +56,7 @@ module _ (s : List ℕ) (w : Reading) (q : List Slot) (values : List ℕ) where
       go true b = refl
       go false b = refl
 
-  entails_is : (pairs : List Implication) (t : Task) → entails_at s pairs t w q values ≡ entails_t w (premises_from s pairs t 0)
+  entails_is : (pairs : ℕ → Implication) (t : Task) → entails_at s pairs t w q values ≡ entails_t w (premises_from s pairs t 0)
       (imp_of s pairs t 0) (row_at s q 0 values)
   unfolding entails_at
   entails_is pairs t = ap₂ (λ (a b : Bool). cond a true (not b)) (imp_is (imp_of s pairs t 0))
@@ -70,7 +70,7 @@ module _ (s : List ℕ) (w : Reading) (q : List Slot) (values : List ℕ) where
       go false false = refl
 
 -- every choice of values for the first j slots; the others are as given
-abbrev rows_by : List ℕ → List Implication → Task → Reading → List Slot → ℕ → List ℕ → Bool
+abbrev rows_by : List ℕ → (ℕ → Implication) → Task → Reading → List Slot → ℕ → List ℕ → Bool
 rows_by s pairs t w q j values =
     all_rows same_tree (choices_t w.range) (kept s q j) (entails_t w (premises_from s pairs t 0) (imp_of s pairs t 0))
     (λ u. value_in values (slot_from s q (slots - j) j u))
@@ -88,7 +88,7 @@ row_chosen s q values j k l h = fun_ext (λ u. go u (same_tree u (slot_at s q j)
         (sym (get_or-set_other values j (slot_from s q (slots - (j + 1)) (j + 1) u) k 0
         (λ d. omega (arith, from_least s q u (slots - (j + 1)) (j + 1))))))
 
-module _ (s : List ℕ) (pairs : List Implication) (t : Task) (w : Reading) (q : List Slot) where
+module _ (s : List ℕ) (pairs : ℕ → Implication) (t : Task) (w : Reading) (q : List Slot) where
   rows_step : (j : ℕ) (values : List ℕ) → length values ≡ slots → j < slots
       → rows_by s pairs t w q (j + 1) values ≡ all_below (choices_t w.range (slot_at s q j))
       (λ k. rows_by s pairs t w q j (set values j k))
@@ -228,7 +228,7 @@ module _ (s : List ℕ) (q : List Slot) (R : ℕ) where
         self : (k : ℕ) → ltb k k ≡ false
         self k = le-ltb k k (omega arith)
 
-module _ (s : List ℕ) (pairs : List Implication) (t : Task) (w : Reading) (q : List Slot) (two : 2 ≤ w.range) where
+module _ (s : List ℕ) (pairs : ℕ → Implication) (t : Task) (w : Reading) (q : List Slot) (two : 2 ≤ w.range) where
   abbrev E : List ℕ → Bool
   E = entails_at s pairs t w q
 

@@ -6,6 +6,7 @@ use mathlib.Core.Bool.{Bool, true, false, cond}
 use native.Mathlib.Omega.{arith}
 use lib.ListN.{get_or, take}
 use lib.Dec.{eqb}
+use Rattle.std.specs.Borrow.{Bor}
 use Rattle.formula.specs.Tree.{parse_tree}
 use Rattle.tables_columns.specs.declared.slot.Slot.{Slot}
 use Rattle.tables_columns.specs.Gather.{Gathered, keys, view, gather_t}
@@ -14,14 +15,29 @@ use Rattle.tables_columns.specs.Column.{deny_of, denied}
 use Rattle.tables_digits.specs.SlotColumn.{row_in}
 use Rattle.tables_columns.proofs.ColumnLists.{column_same}
 use Rattle.tables_digits.specs.ValueColumn.{row_value, column_of}
-use Rattle.tables_rows.specs.Entailment.{ImpT, pair_at, imp_of, imps_from, premises_from, imp_at, imp_fails, gather_imp, gather_imps, gather_all}
+use Rattle.tables_rows.specs.Entailment.{ImpT, pair_in, pair_at, imp_of, imps_from, premises_from, imp_at, imp_fails, gather_imp, gather_imps, gather_all}
 use Rattle.tables_digits.specs.declared.value_column.Reading.{Reading}
 use Rattle.tables_rows.specs.declared.entailment.Implication.{Implication}
+use Rattle.tables_rows.specs.declared.entailment.Pairs.{Pairs}
+use Rattle.tables_rows.specs.declared.entailment.Pairs.TheVariants.{Joined, Apart}
 use Rattle.tables_rows.specs.declared.entailment.Task.{Task}
 use Rattle.tables_digits.proofs.ValueBranches.{column_value}
 
+-- an implication from one list, and from two
+module _ (p : Pairs) (i : ℕ) where
+  pub pair_joined : (l : Bor (List Implication)) (x : Implication) → p ≡ Joined l → x ≡ pair_in l.now i → x ≡ pair_at p i
+  unfolding pair_at
+  pair_joined l x d e = rw d e
+
+  pub pair_apart : (l r : Bor (List ℕ)) (a b : ℕ) → p ≡ Apart l r → a ≡ get_or l.now i 0 → b ≡ get_or r.now i 0
+      → ◌≡◌ {A = Implication} (record { left = a; right = b }) (pair_at p i)
+  unfolding pair_at
+  pair_apart l r a b d ea eb = rw (d, ea, eb)
+
+pub ruleset pair_at_branches = (pair_joined, pair_apart)
+
 -- the premises one after the other
-module _ (s : List ℕ) (pairs : List Implication) (t : Task) where
+module _ (s : List ℕ) (pairs : ℕ → Implication) (t : Task) where
   abbrev prems : ℕ → List ImpT
   prems = premises_from s pairs t
 
@@ -48,7 +64,7 @@ module _ (s : List ℕ) (pairs : List Implication) (t : Task) where
     holds i = imp_at s w q (row_in ms i)
 
     -- an implication fails where the left side is true and the right side is not
-    pub imp-fails : (i : ℕ) (x : Implication) (a b o : List ℕ) → x ≡ pair_at pairs i
+    pub imp-fails : (i : ℕ) (x : Implication) (a b o : List ℕ) → x ≡ pairs i
         → take n a ≡ column_of s w q ms n (parse_tree s t.left x.left).tree
         → take n b ≡ column_of s w q ms n (parse_tree s t.right x.right).tree → take n o ≡ denied n a b → take n o ≡ imp_fails s w q ms n (imp i)
     unfolding deny_of denied imp_fails imp_at imp_of
@@ -68,7 +84,7 @@ module _ (s : List ℕ) (pairs : List Implication) (t : Task) where
 pub ruleset imp_fails_branches = (imp-fails)
 
 -- the leaves of implications
-pub gather-imp : (s : List ℕ) (pairs : List Implication) (t : Task) (i w n m k : ℕ) (x : Implication) (q q₂ q₃ : List Slot) → x ≡ pair_at pairs i
+pub gather-imp : (s : List ℕ) (pairs : ℕ → Implication) (t : Task) (i w n m k : ℕ) (x : Implication) (q q₂ q₃ : List Slot) → x ≡ pairs i
     → view s m q₂ ≡ gather_t w (parse_tree s t.right x.right).tree (view s n q)
     → view s k q₃ ≡ gather_t w (parse_tree s t.left x.left).tree (view s m q₂)
     → view s k q₃ ≡ gather_imp w (imp_of s pairs t i) (view s n q)
@@ -77,7 +93,7 @@ gather-imp s pairs t i w n m k x q q₂ q₃ ex eh ek = ek ∙ rw (eh, ex)
 
 pub ruleset imp_gathered = (gather-imp)
 
-module _ (s : List ℕ) (pairs : List Implication) (t : Task) (w : ℕ) where
+module _ (s : List ℕ) (pairs : ℕ → Implication) (t : Task) (w : ℕ) where
   imps_step : (p : ImpT) (ps : List ImpT) (m : Gathered) → gather_imps w (p ∷ ps) m ≡ gather_imp w p (gather_imps w ps m)
   unfolding gather_imps
   imps_step p ps m = refl

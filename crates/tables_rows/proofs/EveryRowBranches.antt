@@ -60,7 +60,7 @@ zero_in i = go (ltb i slots)
     go false = refl
 
 -- the rows at which nothing fails
-pub none_fail : (s : List ℕ) (pairs : List Implication) (t : Task) (w : Reading) (q : List Slot) (ms : List ℕ) (n : ℕ) (fails : List ℕ) (r : Bool) → t.premises ≡ 0
+pub none_fail : (s : List ℕ) (pairs : ℕ → Implication) (t : Task) (w : Reading) (q : List Slot) (ms : List ℕ) (n : ℕ) (fails : List ℕ) (r : Bool) → t.premises ≡ 0
     → take n fails ≡ imp_fails s w q ms n (imp_of s pairs t 0) → r ≡ none_below fails n
     → r ≡ hold_from s pairs t w q ms n
 unfolding imp_fails none_below hold_from entails_at all_at row_in
@@ -81,7 +81,7 @@ none_fail s pairs t w q ms n fails r z ef er =
     go false = refl
 
 -- by the last values of the slots
-pub rows-hold : (s : List ℕ) (pairs : List Implication) (t : Task) (w : Reading) (q : List Slot) (k n : ℕ) (ms : List ℕ) (r : Bool)
+pub rows-hold : (s : List ℕ) (pairs : ℕ → Implication) (t : Task) (w : Reading) (q : List Slot) (k n : ℕ) (ms : List ℕ) (r : Bool)
     → ms ≡ lasts_of s q w.range k → r ≡ hold_from s pairs t w q ms n → r ≡ rows_hold s pairs t w q k n
 unfolding hold_from rows_hold tried_rows
 rows-hold s pairs t w q k n ms r em e = e ∙ ap
@@ -94,7 +94,7 @@ rows_once s q w k n e = tried_once s q w.range k n e
 
 pub ruleset every_row_holding = (none_fail, rows-hold, rows_once)
 
-module _ (s : List ℕ) (pairs : List Implication) (t : Task) (w : Reading) (limit n : ℕ) (q : List Slot)
+module _ (s : List ℕ) (pairs : ℕ → Implication) (t : Task) (w : Reading) (limit n : ℕ) (q : List Slot)
     (eg : view s n q ≡ gather_all s pairs t w.leaves) where
   pub every_many : slots < n → false ≡ every_of s pairs t w limit
   unfolding every_of

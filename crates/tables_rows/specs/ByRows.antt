@@ -6,7 +6,7 @@ use Rattle.limits.specs.Limits.{nesting}
 use Rattle.formula.specs.Codes.{set_of}
 use Rattle.formula.specs.Tree.{Tree}
 use Rattle.tables_bits.specs.TruthTable.{by_leaves}
-use Rattle.tables_rows.specs.Entailment.{ImpT, imp_of, premises_from}
+use Rattle.tables_rows.specs.Entailment.{ImpT, pair_in, imp_of, premises_from}
 use Rattle.tables_rows.specs.EveryRow.{every_t}
 use Rattle.tables_digits.specs.declared.value_column.Reading.{Reading}
 use Rattle.tables_rows.specs.declared.entailment.Task.{Task}
@@ -30,8 +30,8 @@ task_of p = record { premises = p.count - 1; left = nesting; right = nesting }
 
 -- the line, as trees
 abbrev pub line_of : List ℕ → Implications → ImpT
-line_of s p = imp_of s p.pairs (task_of p) 0
+line_of s p = imp_of s (pair_in p.pairs) (task_of p) 0
 
 -- the premises of the line, as trees
 abbrev pub premises_of : List ℕ → Implications → List ImpT
-premises_of s p = premises_from s p.pairs (task_of p) 0
+premises_of s p = premises_from s (pair_in p.pairs) (task_of p) 0

@@ -15,5 +15,5 @@ unfoldable pub AllBits : List ℕ → ℕ → List Slot → List ImpT → List �
 AllBits s n q cs a = Shows n q (λ p v. all_at s by_leaves p v cs) a
 
 -- the table a has the rows at which the entailment fails
-unfoldable pub FailBits : List ℕ → List Implication → Task → ℕ → List Slot → List ℕ → Type 0
+unfoldable pub FailBits : List ℕ → (ℕ → Implication) → Task → ℕ → List Slot → List ℕ → Type 0
 FailBits s pairs t n q a = Shows n q (λ p v. not (entails_at s pairs t by_leaves p v)) a

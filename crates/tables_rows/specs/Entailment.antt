@@ -9,6 +9,8 @@ use Rattle.tables_digits.specs.SlotColumn.{row_in}
 use Rattle.tables_digits.specs.ValueColumn.{value_t, row_value}
 use Rattle.tables_digits.specs.declared.value_column.Reading.{Reading}
 use Rattle.tables_rows.specs.declared.entailment.Implication.{Implication}
+use Rattle.tables_rows.specs.declared.entailment.Pairs.{Pairs}
+use Rattle.tables_rows.specs.declared.entailment.Pairs.TheVariants.{Joined, Apart}
 use Rattle.tables_rows.specs.declared.entailment.Task.{Task}
 
 -- an implication: left and right
@@ -39,24 +41,29 @@ unfoldable pub gather_imps : ℕ → List ImpT → Gathered → Gathered
 gather_imps w [] m = m
 gather_imps w (p ∷ ps) m = gather_imp w p (gather_imps w ps m)
 
--- implication i, by its positions; at 0 past the end
-abbrev pub pair_at : List Implication → ℕ → Implication
-pair_at pairs i = get_or pairs i (record { left = 0; right = 0 })
+-- implication i of a list, by its positions; at 0 past the end
+abbrev pub pair_in : List Implication → ℕ → Implication
+pair_in pairs i = get_or pairs i (record { left = 0; right = 0 })
 
--- implication i, as trees: 0 is the line, the premises begin at 1
-unfoldable pub imp_of : List ℕ → List Implication → Task → ℕ → ImpT
+-- implication i, by its positions; a position that is not there is 0
+unfoldable pub pair_at : Pairs → ℕ → Implication
+pair_at (Joined pairs) i = pair_in pairs.now i
+pair_at (Apart lefts rights) i = record { left = get_or lefts.now i 0; right = get_or rights.now i 0 }
+
+-- implication i, as trees: 0 is the line, the premises begin at 1. `pairs` gives its positions
+unfoldable pub imp_of : List ℕ → (ℕ → Implication) → Task → ℕ → ImpT
 imp_of s pairs t i = record {
-  left = (parse_tree s t.left (pair_at pairs i).left).tree;
-  right = (parse_tree s t.right (pair_at pairs i).right).tree;
+  left = (parse_tree s t.left (pairs i).left).tree;
+  right = (parse_tree s t.right (pairs i).right).tree;
 }
 
 -- d implications from number i on
-unfoldable pub imps_from : List ℕ → List Implication → Task → ℕ → ℕ → List ImpT
+unfoldable pub imps_from : List ℕ → (ℕ → Implication) → Task → ℕ → ℕ → List ImpT
 imps_from s pairs t i zero = []
 imps_from s pairs t i (suc d) = imp_of s pairs t i ∷ imps_from s pairs t (suc i) d
 
 -- the premises after the first i
-unfoldable pub premises_from : List ℕ → List Implication → Task → ℕ → List ImpT
+unfoldable pub premises_from : List ℕ → (ℕ → Implication) → Task → ℕ → List ImpT
 premises_from s pairs t i = imps_from s pairs t (i + 1) (t.premises - i)
 
 -- the implication is true at a row
@@ -69,12 +76,12 @@ all_at s w q values [] = true
 all_at s w q values (p ∷ ps) = cond (imp_at s w q values p) (all_at s w q values ps) false
 
 -- the line is true at a row, or some premise is not
-unfoldable pub entails_at : List ℕ → List Implication → Task → Reading → List Slot → List ℕ → Bool
+unfoldable pub entails_at : List ℕ → (ℕ → Implication) → Task → Reading → List Slot → List ℕ → Bool
 entails_at s pairs t w q values = cond (imp_at s w q values (imp_of s pairs t 0)) true
     (not (all_at s w q values (premises_from s pairs t 0)))
 
 -- the leaves of the line and its premises
-unfoldable pub gather_all : List ℕ → List Implication → Task → ℕ → Gathered
+unfoldable pub gather_all : List ℕ → (ℕ → Implication) → Task → ℕ → Gathered
 gather_all s pairs t w = gather_imp w (imp_of s pairs t 0) (gather_imps w (premises_from s pairs t 0) (keys []))
 
 -- 1 at the rows at which an implication fails

@@ -29,11 +29,11 @@ unfoldable pub tried_rows : List ℕ → List Slot → ℕ → ℕ → ℕ → L
 tried_rows s q R k n = rows_from (lasts_of s q R k) n (replicate slots 0)
 
 -- the entailment holds at each of n rows from the row of zeros on, by the last values ms
-unfoldable pub hold_from : List ℕ → List Implication → Task → Reading → List Slot → List ℕ → ℕ → Bool
+unfoldable pub hold_from : List ℕ → (ℕ → Implication) → Task → Reading → List Slot → List ℕ → ℕ → Bool
 hold_from s pairs t w q ms n = all (entails_at s pairs t w q) (rows_from ms n (replicate slots 0))
 
 -- the entailment holds at each row that is tried
-unfoldable pub rows_hold : List ℕ → List Implication → Task → Reading → List Slot → ℕ → ℕ → Bool
+unfoldable pub rows_hold : List ℕ → (ℕ → Implication) → Task → Reading → List Slot → ℕ → ℕ → Bool
 rows_hold s pairs t w q k n = all (entails_at s pairs t w q) (tried_rows s q w.range k n)
 
 -- there are at most limit rows by the leaves gathered, and the entailment holds at each
@@ -43,6 +43,6 @@ every_by (keys l) w limit ps c = leb (row_count same_tree (choices_t w.range) l)
     && all_rows same_tree (choices_t w.range) l (entails_t w ps c) (λ u. 0)
 
 -- there are at most limit rows for the line and its premises, and the entailment holds at each
-unfoldable pub every_of : List ℕ → List Implication → Task → Reading → ℕ → Bool
+unfoldable pub every_of : List ℕ → (ℕ → Implication) → Task → Reading → ℕ → Bool
 every_of s pairs t w limit = every_by (gather_all s pairs t w.leaves) w limit (premises_from s pairs t 0)
     (imp_of s pairs t 0)

@@ -4,7 +4,7 @@ ghost use Rattle.formula.specs.Tree.{parse_tree};
 ghost use Rattle.tables_rows.specs.ByRows.{rows_t, table_t, line_of, premises_of};
 
 use crate::by_table::by_bits;
-use crate::entailment::{Implication, Sizes, Task};
+use crate::entailment::{Implication, Pairs, Sizes, Task};
 use crate::every_row::every_row;
 use formula::code::Code;
 use limits::Limits;
@@ -61,7 +61,13 @@ pub fn by_rows(
         leaves: LeafCodes::NAMES,
         range,
     };
-    every_row(image, &pairs, task, reading, Limits::ROWS as u16)
+    every_row(
+        image,
+        &Pairs::Joined(&pairs),
+        task,
+        reading,
+        Limits::ROWS as u16,
+    )
 }
 
 // Whether the line is true at each row of the truth table at which every premise is, with at most ten leaves.
@@ -74,5 +80,5 @@ pub fn by_table(image: &[u8], imps: Implications) -> bool
         left: Limits::NESTING,
         right: Limits::NESTING,
     };
-    by_bits(image, &imps.pairs, task)
+    by_bits(image, &Pairs::Joined(&imps.pairs), task)
 }

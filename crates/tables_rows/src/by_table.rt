@@ -3,11 +3,11 @@ ghost use Rattle.std.specs.Prelude.{◌≡◌, ◌^◌, ◌≤◌};
 ghost use Rattle.tables_columns.specs.Gather.{view};
 ghost use Rattle.tables_digits.specs.Advance.{EveryOnce};
 ghost use Rattle.tables_bits.specs.TruthTable.{by_leaves, Grown};
-ghost use Rattle.tables_rows.specs.Entailment.{imp_of, gather_imp, gather_all};
+ghost use Rattle.tables_rows.specs.Entailment.{pair_at, imp_of, gather_imp, gather_all};
 ghost use Rattle.tables_rows.specs.EveryRow.{lasts_of, tried_rows, rows_hold, every_of};
 ghost use Rattle.tables_rows.specs.ByTable.{ImpBits, FailBits};
 
-use crate::entailment::{Implication, Task, pair_at};
+use crate::entailment::{Pairs, Task, pair_at};
 use formula::code::Code;
 use limits::Limits;
 use tables_bits::bits::{Words, combine_words, deny_words, none_set, rows_of};
@@ -18,7 +18,7 @@ use tables_columns::slot::{Slot, Slots};
 #[tactic(auto, using(crate::proofs::ByTableBranches::imp_bits_branches, crate::proofs::EntailmentBranches::imp_gathered))]
 fn imp_bits(
     image: &[u8],
-    pairs: &[Implication],
+    pairs: &Pairs,
     task: Task,
     i: usize,
     n: usize,
@@ -26,10 +26,10 @@ fn imp_bits(
     out: &mut [u64; Words::COUNT],
 ) -> usize
     ensures slots_after { view image.now result slots.new ≡ gather_imp by_leaves.leaves
-        (imp_of image.now pairs.now task i) (view image.now n slots.old) }
+        (imp_of image.now (pair_at pairs.now) task i) (view image.now n slots.old) }
     ensures grown { Grown n slots.old result slots.new out.new }
     ensures imp_bits { ImpBits image.now result slots.new
-        (imp_of image.now pairs.now task i)
+        (imp_of image.now (pair_at pairs.now) task i)
         out.new }
 {
     let mut b: [u64; Words::COUNT] = [0; Words::COUNT];
@@ -44,14 +44,14 @@ fn imp_bits(
 #[tactic(auto, using(crate::proofs::ByTableBranches::all_bits_rowsets, crate::proofs::EntailmentBranches::all_bits_gathered))]
 fn all_bits(
     image: &[u8],
-    pairs: &[Implication],
+    pairs: &Pairs,
     task: Task,
     slots: &mut [Slot; Slots::COUNT],
     out: &mut [u64; Words::COUNT],
 ) -> usize
-    ensures slots_after { view image.now result slots.new ≡ gather_all image.now pairs.now task
+    ensures slots_after { view image.now result slots.new ≡ gather_all image.now (pair_at pairs.now) task
         by_leaves.leaves }
-    ensures fail_bits { FailBits image.now pairs.now task result slots.new out.new }
+    ensures fail_bits { FailBits image.now (pair_at pairs.now) task result slots.new out.new }
 {
     let mut holds: [u64; Words::COUNT] = [Words::ALL; Words::COUNT];
     let mut n: usize = 0;
@@ -69,15 +69,15 @@ fn all_bits(
 #[tactic(auto, using(crate::proofs::ByTableBranches::bits_hold_branches, limits::proofs::BranchTests::tests))]
 fn bits_hold(
     image: &[u8],
-    pairs: &[Implication],
+    pairs: &Pairs,
     task: Task,
     slots: &[Slot; Slots::COUNT],
     n: usize,
     fails: &[u64; Words::COUNT],
 ) -> bool
     requires n_bound { n ≤ 10 }
-    requires fail_bits { FailBits image.now pairs.now task n slots.now fails.now }
-    ensures value { result ≡ rows_hold image.now pairs.now task by_leaves slots.now n
+    requires fail_bits { FailBits image.now (pair_at pairs.now) task n slots.now fails.now }
+    ensures value { result ≡ rows_hold image.now (pair_at pairs.now) task by_leaves slots.now n
         (2 ^ n) }
     ensures once { EveryOnce (lasts_of image.now slots.now 2 n)
         (tried_rows image.now slots.now 2 n (2 ^ n)) }
@@ -87,8 +87,8 @@ fn bits_hold(
 
 // Whether there are at most ten leaves, and the line is true at each row at which every premise is.
 #[tactic(auto, using(crate::proofs::ByTableBranches::by_bits_branches, limits::proofs::BranchTests::tests))]
-pub fn by_bits(image: &[u8], pairs: &[Implication], task: Task) -> bool
-    ensures { result ≡ every_of image.now pairs.now task by_leaves 1024 }
+pub fn by_bits(image: &[u8], pairs: &Pairs, task: Task) -> bool
+    ensures { result ≡ every_of image.now (pair_at pairs.now) task by_leaves 1024 }
 {
     let mut slots: [Slot; Slots::COUNT] = [Slot::EMPTY; Slots::COUNT];
     let mut fails: [u64; Words::COUNT] = [0; Words::COUNT];

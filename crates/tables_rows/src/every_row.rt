@@ -1,9 +1,10 @@
 // An implication without premises tried at every row, from the row of zeros on.
 ghost use Rattle.std.specs.Prelude.{◌≡◌, ◌≤◌, replicate};
 ghost use Rattle.tables_digits.specs.Advance.{rows_of, EveryOnce};
+ghost use Rattle.tables_rows.specs.Entailment.{pair_at};
 ghost use Rattle.tables_rows.specs.EveryRow.{lasts_of, tried_rows, hold_from, rows_hold, every_of};
 
-use crate::entailment::{Implication, Task, gather_line, imp_fails};
+use crate::entailment::{Pairs, Task, gather_line, imp_fails};
 use tables_columns::block::Block;
 use tables_columns::column::none_below;
 use tables_columns::count::{choices, count_rows};
@@ -29,10 +30,11 @@ pub fn fill_lasts(
 
 // Whether the implication fails at none of the rows, with scratch space for two columns of `N` rows.
 #[tactic(auto, using(crate::proofs::EveryRowBranches::every_row_holding, limits::proofs::BranchTests::tests))]
-fn none_fails<const N: usize>(pairs: &[Implication], task: Task, rows: &Rows) -> bool
+fn none_fails<const N: usize>(pairs: &Pairs, task: Task, rows: &Rows) -> bool
     requires in_room { (rows.now.count ≤ N) × (N ≤ 4096) }
     requires alone { task.premises ≡ 0 }
-    ensures { result ≡ hold_from rows.now.image.now pairs.now task rows.now.reading rows.now.slots.now rows.now.lasts.now rows.now.count }
+    ensures { result ≡ hold_from rows.now.image.now (pair_at pairs.now) task rows.now.reading rows.now.slots.now rows.now.lasts.now
+        rows.now.count }
 {
     let mut fails: [u8; N] = [0; N];
     let mut room: [u8; N] = [0; N];
@@ -41,9 +43,10 @@ fn none_fails<const N: usize>(pairs: &[Implication], task: Task, rows: &Rows) ->
 }
 
 // Whether the implication fails at none of the rows, with scratch space as large as their number needs.
-fn try_rows(pairs: &[Implication], task: Task, rows: &Rows) -> bool
+fn try_rows(pairs: &Pairs, task: Task, rows: &Rows) -> bool
     requires { task.premises ≡ 0 }
-    ensures { result ≡ hold_from rows.now.image.now pairs.now task rows.now.reading rows.now.slots.now rows.now.lasts.now rows.now.count }
+    ensures { result ≡ hold_from rows.now.image.now (pair_at pairs.now) task rows.now.reading rows.now.slots.now rows.now.lasts.now
+        rows.now.count }
 {
     if rows.count <= Block::FEW {
         return none_fails::<{ Block::FEW }>(pairs, task, rows);
@@ -55,7 +58,7 @@ fn try_rows(pairs: &[Implication], task: Task, rows: &Rows) -> bool
 #[tactic(auto, using(crate::proofs::EveryRowBranches::every_row_holding, limits::proofs::BranchTests::tests))]
 pub fn rows_hold(
     image: &[u8],
-    pairs: &[Implication],
+    pairs: &Pairs,
     task: Task,
     reading: Reading,
     slots: &[Slot; Slots::COUNT],
@@ -64,7 +67,7 @@ pub fn rows_hold(
 ) -> bool
     requires n_bound { (n ≤ 12) × ((rows ≤ 4096) × (task.premises ≡ 0)) }
     requires rows_value { rows ≡ rows_of (lasts_of image.now slots.now reading.range n) }
-    ensures value { result ≡ rows_hold image.now pairs.now task reading slots.now n rows }
+    ensures value { result ≡ rows_hold image.now (pair_at pairs.now) task reading slots.now n rows }
     ensures once { EveryOnce (lasts_of image.now slots.now reading.range n)
         (tried_rows image.now slots.now reading.range n rows) }
 {
@@ -81,15 +84,9 @@ pub fn rows_hold(
 }
 
 // Whether there are at most `limit` rows, and the implication holds at each.
-pub fn every_row(
-    image: &[u8],
-    pairs: &[Implication],
-    task: Task,
-    reading: Reading,
-    limit: u16,
-) -> bool
+pub fn every_row(image: &[u8], pairs: &Pairs, task: Task, reading: Reading, limit: u16) -> bool
     requires { (2 ≤ reading.range) × ((limit ≤ 4096) × (task.premises ≡ 0)) }
-    ensures { result ≡ every_of image.now pairs.now task reading limit }
+    ensures { result ≡ every_of image.now (pair_at pairs.now) task reading limit }
 {
     let mut slots: [Slot; Slots::COUNT] = [Slot::EMPTY; Slots::COUNT];
     let k = gather_line(image, pairs, task, reading.leaves, &mut slots);

@@ -5,7 +5,7 @@ use Rattle.formula.specs.Reader.{reading_of}
 use Rattle.formula.specs.declared.reader.Counts.{Counts}
 use Rattle.vectors.specs.Counters.{with_case}
 use Rattle.vectors.specs.declared.counters.Counters.{Counters}
-use Rattle.vectors_formulas.specs.Answer.{kind_of, is_answer}
+use Rattle.vectors_formulas.specs.Answer.{numbered, kind_of, is_answer}
 
 -- threads, words, registers and the range, a byte each
 unfoldable pub counts_at : List ℕ → Counts
@@ -13,5 +13,5 @@ counts_at s = record { threads = get_or s 0 0; words = get_or s 1 0; registers =
 
 -- one formula more, by its reading's kind and by whether it is the stored one
 unfoldable pub with_formula : Counters → List ℕ → List ℕ → Counters
-with_formula t body s = with_case t (kind_of (reading_of body (counts_at s)))
-    (is_answer (reading_of body (counts_at s)) (le16 (drop 4 s)) (le16 (drop 6 s)))
+with_formula t body s = with_case t (kind_of (numbered (reading_of body (counts_at s))))
+    (is_answer (numbered (reading_of body (counts_at s))) (le16 (drop 4 s)) (le16 (drop 6 s)))

@@ -4,7 +4,7 @@ ghost use Rattle.std.specs.Prelude.{◌≡◌, IfOk, IfErr};
 ghost use Rattle.vectors.specs.CasesCounted.{FromCases};
 ghost use Rattle.vectors_formulas.specs.Judge.{counts_at, with_formula};
 
-use crate::answer::{is_answer, kind_of};
+use crate::answer::{is_answer, kind_of, numbered};
 use formula::reader::{Counts, read_formula};
 use limits::read::{u8_at, u16_at};
 use std::io::Read;
@@ -41,7 +41,7 @@ fn counts_at(bytes: &[u8]) -> Counts
 fn with_formula(counters: Counters, body: &[u8], stored: &[u8]) -> Counters
     ensures { result ≡ with_formula counters body.now stored.now }
 {
-    let reading = read_formula(body, counts_at(stored));
+    let reading = numbered(read_formula(body, counts_at(stored)));
     let same = is_answer(reading, u16_at(stored, 4), u16_at(stored, 6));
     with_case(counters, kind_of(reading), same)
 }
