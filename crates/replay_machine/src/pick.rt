@@ -88,8 +88,8 @@ pub fn ended_by(code: u8) -> Result<(), Refusal>
         33 => Err(Refusal::OutOfRange),
         34 => Err(Refusal::Unserved),
         1..=23 => Err(Refusal::Other(code - 1)),
-        25 | 26 => Err(Refusal::Other(code - 2)),
-        30 | 31 => Err(Refusal::Other(code - 5)),
+        25..=26 => Err(Refusal::Other(code - 2)),
+        30..=31 => Err(Refusal::Other(code - 5)),
         _ => Err(Refusal::Other(code - 8)),
     }
 }
