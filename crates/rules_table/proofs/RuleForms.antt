@@ -7,10 +7,12 @@ use native.Mathlib.Omega.{arith}
 use lib.Dec.{T, eqb, ltb, leb, eqb→eq}
 use lib.ListN.{length, get_or, get_or-eq_default}
 use borrow.Author.Tests.{ne_eqb, lt-leb, le-ltb, ltb-true, ltb-false}
+use Rattle.std.proofs.Common.{rules}
 use Rattle.std.proofs.lemmas.Bool.Decides.{nat_tests}
 use Rattle.semantics.proofs.Base.{and_left, and_right}
 use Rattle.logic.specs.Rows.{all_below}
 use Rattle.logic.proofs.Rows.{all_below_at}
+use Rattle.rules_table.specs.contracts.rule.FormPartialEq.TheImpl as equality
 use Rattle.rules_table.specs.declared.rule.Side.{Side}
 use Rattle.rules_table.specs.declared.rule.Side.TheVariants.{Nothing, Kept, Assigned, Loaded, WordAbsent, Stored, ByRows, ByTable, StartValue, NewValue, StartsAtZero}
 use Rattle.rules_table.specs.TableTest.{same_side}
@@ -53,6 +55,10 @@ form_one f g e = sym (form_back f) ∙ ap form_named e ∙ form_back g
 
 pub same_forms : (f g : Form) → T (same_form f g) → f ≡ g
 same_forms f g h = form_one f g (eqb→eq (form_number f) (form_number g) h)
+
+-- what the code's `==` answers for two forms is this test
+pub form_flag : (f g : Form) → equality.ghosts.eq f g ≡ same_form f g
+form_flag f g = search rules
 
 side_back : (a : Side) → side_numbered (side_number a) ≡ a
 side_back Nothing = refl
