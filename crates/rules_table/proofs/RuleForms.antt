@@ -37,6 +37,10 @@ form_by n =
 abbrev pub form_named : ℕ → Form
 form_named n = get_or (Inclusion ∷ Implication ∷ Triple ∷ Pair ∷ Unlisted ∷ []) n (Other (n - 5))
 
+-- a number from 5 on has no form with a name
+named_past : (n : ℕ) → 5 ≤ n → form_named n ≡ Other (n - 5)
+named_past n h = get_or-eq_default (Inclusion ∷ Implication ∷ Triple ∷ Pair ∷ Unlisted ∷ []) (Other (n - 5)) h
+
 form_back : (f : Form) → form_named (form_number f) ≡ f
 form_back Inclusion = refl
 form_back Implication = refl
@@ -47,7 +51,7 @@ form_back (Other n) =
     let number : ℕ = suc (suc (suc (suc (suc n)))) in
     let past : 5 ≤ number = omega arith in
     let back : number - 5 ≡ n = omega arith in
-    get_or-eq_default (Inclusion ∷ Implication ∷ Triple ∷ Pair ∷ Unlisted ∷ []) (Other (number - 5)) past ∙ ap Other back
+    named_past number past ∙ ap Other back
 
 -- forms are told apart by their numbers
 pub form_one : (f g : Form) → form_number f ≡ form_number g → f ≡ g
@@ -56,7 +60,7 @@ form_one f g e = sym (form_back f) ∙ ap form_named e ∙ form_back g
 pub same_forms : (f g : Form) → T (same_form f g) → f ≡ g
 same_forms f g h = form_one f g (eqb→eq (form_number f) (form_number g) h)
 
--- what the code's `==` answers for two forms is this test
+-- what the code's `==` answers for two forms is this test. Proofs of code find that by themselves; the law is there to be cited
 pub form_flag : (f g : Form) → equality.ghosts.eq f g ≡ same_form f g
 form_flag f g = search rules
 
@@ -77,13 +81,16 @@ side_back StartsAtZero = refl
 pub same_sides : (a b : Side) → T (same_side a b) → a ≡ b
 same_sides a b h = sym (side_back a) ∙ ap side_numbered (eqb→eq (side_number a) (side_number b) h) ∙ side_back b
 
+-- one test shows that the first five forms that f gives have the numbers 0 to 4
+five_numbers : (f : ℕ → Form) → T (all_below 5 (λ i. eqb (form_number (f i)) i)) → (n : ℕ) → n < 5 → form_number (f n) ≡ n
+five_numbers f t n h = eqb→eq (form_number (f n)) n (all_below_at 5 (λ i. eqb (form_number (f i)) i) t n h)
+
 named_back : T (all_below 5 (λ n. eqb (form_number (form_numbered n)) n))
 named_back = tt
 
 module _ (n : ℕ) where
   pub form_below : (f : Form) → n < 5 → f ≡ form_numbered n → form_number f ≡ n
-  form_below f h e =
-      ap form_number e ∙ eqb→eq (form_number (form_numbered n)) n (all_below_at 5 (λ i. eqb (form_number (form_numbered i)) i) named_back n h)
+  form_below f h e = ap form_number e ∙ five_numbers form_numbered named_back n h
 
   pub form_above : 5 ≤ n → form_number (Other (n - 5)) ≡ n
   form_above h = omega arith
@@ -93,10 +100,10 @@ pub named_number : (n : ℕ) → form_number (form_named n) ≡ n
 named_number n = go (ltb n 5) refl
   where
     go : (b : Bool) → ltb n 5 ≡ b → form_number (form_named n) ≡ n
-    go true e = eqb→eq (form_number (form_named n)) n (all_below_at 5 (λ i. eqb (form_number (form_named i)) i) tt n (ltb-true n 5 e))
+    go true e = five_numbers form_named tt n (ltb-true n 5 e)
     go false e =
         let past : 5 ≤ n = ltb-false n 5 e in
-        ap form_number (get_or-eq_default (Inclusion ∷ Implication ∷ Triple ∷ Pair ∷ Unlisted ∷ []) (Other (n - 5)) past) ∙ form_above n past
+        ap form_number (named_past n past) ∙ form_above n past
 
 pub ruleset forms_by_number = (form_below, form_above)
 
@@ -116,7 +123,9 @@ agree f (r ∷ l) = same_form (f 0) r.form && agree (λ n. f (suc n)) l
 agree_at : (f : ℕ → Form) (l : List Rule) → T (agree f l) → (n : ℕ) → n < length l → f n ≡ (get_or l n unlisted).form
 agree_at f [] h n b = absurd (omega arith)
 agree_at f (r ∷ l) h zero b = same_forms (f 0) r.form (and_left (same_form (f 0) r.form) (agree (λ n. f (suc n)) l) h)
-agree_at f (r ∷ l) h (suc n) b = agree_at (λ n. f (suc n)) l (and_right (same_form (f 0) r.form) (agree (λ n. f (suc n)) l) h) n (omega arith)
+agree_at f (r ∷ l) h (suc n) b =
+    let rest : T (agree (λ n. f (suc n)) l) = and_right (same_form (f 0) r.form) (agree (λ n. f (suc n)) l) h in
+    agree_at (λ n. f (suc n)) l rest n (omega arith)
 
 past : (n : ℕ) → 51 ≤ n → form_by n ≡ Unlisted
 unfolding form_by
